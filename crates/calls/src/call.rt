@@ -1,6 +1,9 @@
 // The calls: everything that a host can hand to the monitor. `T` is how the text of a write is held: a slice in code,
 // a list of bytes in the definitions.
 
+ghost use Rattle.calls.specs.Calls.{callWith, transferWith};
+ghost use mathlib.Core.Path.{_≡_};
+
 #[derive(Clone, Copy)]
 pub enum Call<T> {
     // Makes a task; level 0 stands for the caller's level.
@@ -49,4 +52,40 @@ pub enum LookedAt {
     Message,
     Start,
     Outcome,
+}
+
+impl<T: Drop> Transfer<T> {
+    // The same transfer with another text in the place of its own, if it has one.
+    pub fn with_text<U: Drop>(self, text: U) -> Transfer<U>
+        ensures { λ r. ⌜ r ≡ transferWith (λ _. text) self ⌝ }
+    {
+        match self {
+            Transfer::Write { text: _ } => Transfer::Write { text },
+            Transfer::WriteLine { text: _ } => Transfer::WriteLine { text },
+            Transfer::Read { length } => Transfer::Read { length },
+            Transfer::ReadLine => Transfer::ReadLine,
+        }
+    }
+}
+
+impl<T: Drop> Call<T> {
+    // The same call with another text in the place of its own, if it has one.
+    pub fn with_text<U: Drop>(self, text: U) -> Call<U>
+        ensures { λ r. ⌜ r ≡ callWith (λ _. text) self ⌝ }
+    {
+        match self {
+            Call::Create { id, level, start, message } => Call::Create { id, level, start, message },
+            Call::Kill => Call::Kill,
+            Call::Suspend => Call::Suspend,
+            Call::SetLevel { level } => Call::SetLevel { level },
+            Call::ById { id, call } => Call::ById { id, call },
+            Call::Send { cell, message, stay } => Call::Send { cell, message, stay },
+            Call::Wait { cell } => Call::Wait { cell },
+            Call::Delay { ticks } => Call::Delay { ticks },
+            Call::Transfer { unit, transfer } => Call::Transfer { unit, transfer: transfer.with_text(text) },
+            Call::Look { at } => Call::Look { at },
+            Call::Tick => Call::Tick,
+            Call::Service { unit } => Call::Service { unit },
+        }
+    }
 }

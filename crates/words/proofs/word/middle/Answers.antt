@@ -1,0 +1,6 @@
+use Prim.Native.Nat.{_/_}
+use Rattle.std.proofs.shelf.Bits.{and-mask}
+use Rattle.words.proofs.word.middle.Needs as need
+
+pub returns : need.returns
+returns c = and-mask (c .args .word / 256) 8

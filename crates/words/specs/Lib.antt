@@ -1,0 +1,4 @@
+-- What the word format means.
+pub mod Format
+pub mod Heads
+pub mod Text
