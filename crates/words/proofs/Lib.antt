@@ -2,3 +2,4 @@
 pub mod Words
 pub mod FirstWords
 pub mod Texts
+pub mod CallWords

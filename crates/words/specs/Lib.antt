@@ -2,3 +2,4 @@
 pub mod Format
 pub mod Heads
 pub mod Text
+pub mod Reading

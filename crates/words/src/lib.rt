@@ -1,5 +1,12 @@
 // The word format: calls and answers written as 32-bit words and read back, and the text lines of a run's report.
 
 mod heads;
+mod read;
+mod reading;
 mod text;
 mod word;
+
+pub use read::read_call;
+pub use reading::Reading;
+pub use reading::ReadingClone;
+pub use text::LONGEST_TEXT;
