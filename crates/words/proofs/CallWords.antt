@@ -11,13 +11,17 @@ use Rattle.calls.specs.declared.call.Call.{Call}
 use Rattle.calls.specs.declared.call.Call.the-variants.{Create, Kill, Suspend, SetLevel, ById, Send, Wait, Delay, Transfer, Look, Tick, Service}
 use Rattle.calls.specs.declared.call.Transfer.the-variants as moves
 use Rattle.std.proofs.shelf.Lists.{drop-at, length-append, nil-from-length, take-at}
+use Rattle.calls.specs.declared.refusal.Refusal.the-variants.{NoRoom}
+use Rattle.std.proofs.shelf.Ways.{tells}
 use Rattle.std.specs.Options.{Cases}
+use Rattle.std.specs.declared.result.Result.the-variants.{Ok, Err}
 use Rattle.std.specs.declared.option.Option.{Option}
 use Rattle.std.specs.declared.option.Option.the-variants.{Some, None}
 use Rattle.words.specs.Format.{callWords, dataWord, dataWords, firstWord, lengthIn, textWords}
 use Rattle.words.specs.Heads.{bare, wordBytes}
 use Rattle.words.specs.Reading.{CreateRead, One-call, ReadsCall, Writable}
 use Rattle.words.specs.Text.{textLength}
+use Rattle.words.specs.Writing.{toldCall, wordsSize}
 use Rattle.words.specs.declared.reading.Reading.{Reading}
 use Rattle.words.specs.declared.reading.Reading.the-variants.{End, Unlawful, Found}
 use Rattle.words.proofs.FirstWords.{about-head, same-head}
@@ -165,32 +169,14 @@ this-text f head text call bytes rest b other k is e =
     let p = filled head (f text) b other k in
     (ap (λ d. bare (callWith length d)) c ∙ p .0, e ∙ ap (λ d. d ++ rest) (sym (p .1)) ∙ sym (ap (λ d. dataWords d ++ rest) c))
 
--- the words begin with too few bytes, with no first word, with a first word and no data words that go with it, or with a call
-pub too-short : (bytes : List ℕ) → length bytes < 4 → (c : Call (List ℕ)) (more : List ℕ) → bytes ≡ callWords c ++ more → ⊥
+-- a call has at least one word
+too-short : (bytes : List ℕ) → length bytes < 4 → (c : Call (List ℕ)) (more : List ℕ) → bytes ≡ callWords c ++ more → ⊥
 too-short bytes s c more e =
     let k = about-head (callWith length c) .0 in
     let l = ap length e in
     let m = length-append (callWords c) more in
     let n = length-append (firstWord (callWith length c)) (dataWords c) in
     omega arith
-
-pub no-head : (bytes rest : List ℕ) (w : ℕ) → bytes ≡ wordBytes w ++ rest → ((h : Call ℕ) → firstWord h ≡ wordBytes w → ⊥) → (c : Call (List ℕ)) (more : List ℕ) → bytes ≡ callWords c ++ more → ⊥
-no-head bytes rest w e none c more f = none (callWith length c) (begins c more (wordBytes w) rest refl (sym f ∙ e) .0)
-
-pub no-data : (bytes rest : List ℕ) (w : ℕ) (head : Call ℕ) → bytes ≡ wordBytes w ++ rest → firstWord head ≡ wordBytes w → head ≡ bare head
-    → ((c : Call (List ℕ)) (more : List ℕ) → bare (callWith length c) ≡ head → rest ≡ dataWords c ++ more → ⊥) → (c : Call (List ℕ)) (more : List ℕ) → bytes ≡ callWords c ++ more → ⊥
-no-data bytes rest w head e is b none c more f =
-    let p = begins c more (wordBytes w) rest refl (sym f ∙ e) in
-    none c more (same-head (callWith length c) head (p .0 ∙ sym is) ∙ sym b) (sym (p .1))
-
-pub this-call : (bytes rest more : List ℕ) (w : ℕ) (head : Call ℕ) (c : Call (List ℕ)) → bytes ≡ wordBytes w ++ rest → firstWord head ≡ wordBytes w → lengthIn head ≤ 255 → bare (callWith length c) ≡ head → rest ≡ dataWords c ++ more
-    → (bytes ≡ callWords c ++ more) × Writable c
-this-call bytes rest more w head c e is k b f =
-    let p = about-head (callWith length c) in
-    let a = append-assoc (firstWord (callWith length c)) (dataWords c) more in
-    let q : firstWord (callWith length c) ≡ wordBytes w = sym (p .1) ∙ ap firstWord b ∙ is in
-    let r : lengthIn (callWith length c) ≡ lengthIn head = sym (p .2) ∙ ap lengthIn b in
-    ((cc), omega arith)
 
 -- the words of a call are read as that call
 created-too : (c : Call (List ℕ)) (id level : ℕ) → bare (callWith length c) ≡ Create id level 0 0 → (start : ℕ) × (message : ℕ) × (c ≡ Create id level start message)
@@ -240,3 +226,28 @@ one-call c rest (Found d more) r =
     let u = q .0 in
     let v = q .1 in
     cc
+
+-- how many bytes a call takes, by its first word
+pub words-size : (c : Call (List ℕ)) → wordsSize (callWith length c) ≡ length (callWords c)
+words-size (Create id level start message) = refl
+words-size Kill = refl
+words-size Suspend = refl
+words-size (SetLevel level) = refl
+words-size (ById id call) = refl
+words-size (Send cell message stay) = refl
+words-size (Wait cell) = refl
+words-size (Delay ticks) = refl
+words-size (Look at) = refl
+words-size Tick = refl
+words-size (Service unit) = refl
+words-size (Transfer unit (moves.Write text)) = let n = length-text text in omega arith
+words-size (Transfer unit (moves.WriteLine text)) = let n = length-text text in omega arith
+words-size (Transfer unit (moves.Read size)) = refl
+words-size (Transfer unit moves.ReadLine) = refl
+
+-- what is told where there is no room, and where there is
+pub told-full : (c : Call (List ℕ)) (out : List ℕ) (n : ℕ) → Writable c → n ≡ length (callWords c) → length out < n → toldCall c out ≡ Err NoRoom
+told-full c out n w e f = grind (arith, tells)
+
+pub told-size : (c : Call (List ℕ)) (out : List ℕ) (n : ℕ) → Writable c → n ≡ length (callWords c) → n ≤ length out → toldCall c out ≡ Ok n
+told-size c out n w e f = grind (arith, tells)

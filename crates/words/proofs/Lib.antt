@@ -3,3 +3,4 @@ pub mod Words
 pub mod FirstWords
 pub mod Texts
 pub mod CallWords
+pub mod Laid

@@ -3,3 +3,4 @@ pub mod Format
 pub mod Heads
 pub mod Text
 pub mod Reading
+pub mod Writing

@@ -5,8 +5,10 @@ mod read;
 mod reading;
 mod text;
 mod word;
+mod write;
 
 pub use read::read_call;
 pub use reading::Reading;
 pub use reading::ReadingClone;
 pub use text::LONGEST_TEXT;
+pub use write::write_call;
