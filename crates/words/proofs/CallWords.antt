@@ -21,14 +21,14 @@ use Rattle.words.specs.Format.{callWords, dataWord, dataWords, firstWord, leng
 use Rattle.words.specs.Heads.{bare, wordBytes}
 use Rattle.words.specs.Reading.{CreateRead, One-call, ReadsCall, Writable}
 use Rattle.words.specs.Text.{textLength}
-use Rattle.words.specs.Writing.{toldCall, wordsSize}
+use Rattle.words.specs.Writing.{toldCall, toldWriting, wordsSize}
 use Rattle.words.specs.declared.reading.Reading.{Reading}
 use Rattle.words.specs.declared.reading.Reading.the-variants.{End, Unlawful, Found}
 use Rattle.words.proofs.FirstWords.{about-head, same-head}
 use Rattle.words.proofs.Texts.{length-text}
 
 -- lists that begin alike
-split-same : (xs ys zs ws : List ℕ) → length xs ≡ length zs → xs ++ ys ≡ zs ++ ws → (xs ≡ zs) × (ys ≡ ws)
+pub split-same : (xs ys zs ws : List ℕ) → length xs ≡ length zs → xs ++ ys ≡ zs ++ ws → (xs ≡ zs) × (ys ≡ ws)
 split-same xs ys zs ws k e =
     let a = take-at xs ys (length xs) refl in
     let b = take-at zs ws (length xs) (sym k) in
@@ -118,7 +118,7 @@ weaker None h f g = f h
 weaker (Some x) h f g = g x h
 
 -- texts of one length with the same words are the same
-same-text : (s t more rest : List ℕ) → length s ≡ length t → textWords s ++ more ≡ textWords t ++ rest → (s ≡ t) × (more ≡ rest)
+pub same-text : (s t more rest : List ℕ) → length s ≡ length t → textWords s ++ more ≡ textWords t ++ rest → (s ≡ t) × (more ≡ rest)
 same-text [] [] more rest k e = (refl, e)
 same-text [] (x ∷ t) more rest k e = absurd (omega arith)
 same-text (x ∷ s) [] more rest k e = absurd (omega arith)
@@ -134,7 +134,7 @@ same-text (a ∷ b ∷ c ∷ s) (x ∷ y ∷ z ∷ t) more rest k e =
     ((cc), again .1)
 
 -- a number is its two bytes
-same-number : (m n : ℕ) → m / 256 ≡ n / 256 → m % 256 ≡ n % 256 → m ≡ n
+pub same-number : (m n : ℕ) → m / 256 ≡ n / 256 → m % 256 ≡ n % 256 → m ≡ n
 same-number m n p q = omega arith
 
 -- a create whose first word is known: none is there, or this one
@@ -246,8 +246,12 @@ words-size (Transfer unit (moves.Read size)) = refl
 words-size (Transfer unit moves.ReadLine) = refl
 
 -- what is told where there is no room, and where there is
-pub told-full : (c : Call (List ℕ)) (out : List ℕ) (n : ℕ) → Writable c → n ≡ length (callWords c) → length out < n → toldCall c out ≡ Err NoRoom
-told-full c out n w e f = grind (arith, tells)
+pub told-full : (words out : List ℕ) (n : ℕ) → n ≡ length words → length out < n → toldWriting words out ≡ Err NoRoom
+told-full words out n e f = grind (arith, tells)
 
-pub told-size : (c : Call (List ℕ)) (out : List ℕ) (n : ℕ) → Writable c → n ≡ length (callWords c) → n ≤ length out → toldCall c out ≡ Ok n
-told-size c out n w e f = grind (arith, tells)
+pub told-size : (words out : List ℕ) (n : ℕ) → n ≡ length words → n ≤ length out → toldWriting words out ≡ Ok n
+told-size words out n e f = grind (arith, tells)
+
+-- a call that can be written is written if there is room
+pub told-call : (c : Call (List ℕ)) (out : List ℕ) → Writable c → toldCall c out ≡ toldWriting (callWords c) out
+told-call c out w = grind (arith, tells)

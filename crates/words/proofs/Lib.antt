@@ -4,3 +4,4 @@ pub mod FirstWords
 pub mod Texts
 pub mod CallWords
 pub mod Laid
+pub mod AnswerWords

@@ -1,10 +1,13 @@
 -- Words as four bytes and as numbers.
 use Prim.Native.Nat.{ℕ, _+_, _-_, _*_, _/_, _%_, _<_, _≤_}
+use lib.Dec.{eqb}
 use lib.ListN.{length, getD, take, drop}
+use mathlib.Core.Bool.{true}
 use mathlib.Core.List.{List, [], _∷_, _++_}
 use mathlib.Core.Path.{_≡_, refl, sym, ap, _∙_}
 use native.Mathlib.Omega.{arith}
-use Rattle.std.proofs.shelf.Lists.{drop-more, take-rest}
+use Rattle.std.proofs.shelf.Lists.{drop-more, nil-from-length, take-rest}
+use Rattle.std.proofs.shelf.Tests.{eqb-true}
 use Rattle.words.specs.Heads.{wordBytes}
 
 -- four bytes are the bytes of the number that they make
@@ -25,3 +28,6 @@ four-and-rest xs h =
     let d = drop-more xs 3 0 (omega arith) in
     let r = take-rest xs 4 in
     cc
+
+pub empty : (xs : List ℕ) → true ≡ eqb (length xs) 0 → xs ≡ []
+empty xs e = nil-from-length xs (eqb-true (length xs) 0 (sym e))

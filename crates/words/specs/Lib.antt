@@ -4,3 +4,4 @@ pub mod Heads
 pub mod Text
 pub mod Reading
 pub mod Writing
+pub mod Answers

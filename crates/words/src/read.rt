@@ -59,7 +59,7 @@ fn read_create<T: Drop>(id: u8, level: u8, bytes: &[u8]) -> Option<(Call<T>, &[u
 }
 
 // The first bytes of a text.
-fn front(text: &[u8; LONGEST_TEXT], size: usize) -> &[u8]
+pub(crate) fn front(text: &[u8; LONGEST_TEXT], size: usize) -> &[u8]
     requires { ⌜ size ≤ 255 ⌝ }
     ensures { λ r. ⌜ now r ≡ take size (now (text .entry)) ⌝ }
 {
