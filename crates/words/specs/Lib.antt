@@ -5,3 +5,4 @@ pub mod Text
 pub mod Reading
 pub mod Writing
 pub mod Answers
+pub mod Lines

@@ -122,8 +122,8 @@ fn word_of(running: Option<u8>, reply: Result<u16, Refusal>) -> u32
     }
 }
 
-// Writes the words of an answer to the front of `out` and tells how many bytes they take.
-pub fn write_answer(answer: Answer<&[u8]>, out: &mut [u8]) -> Result<usize, Refusal>
+// Lays the words of an answer over the first bytes if there is room.
+fn try_answer(answer: Answer<&[u8]>, out: &mut [u8]) -> Result<usize, Refusal>
     ensures told { λ r. ⌜ r ≡ toldWriting (answerWords (answerWith (λ t. now t) (answer .entry))) (now (out .entry)) ⌝ }
     ensures leaves { λ r. ⌜ now (out .exit) ≡ leftBy r (answerWords (answerWith (λ t. now t) (answer .entry))) (now (out .entry)) ⌝ }
 {
@@ -134,4 +134,13 @@ pub fn write_answer(answer: Answer<&[u8]>, out: &mut [u8]) -> Result<usize, Refu
     put_word(out, 0, word_of(answer.running, answer.reply));
     put_text(out, 4, answer.text);
     Ok(size)
+}
+
+// Writes the words of an answer to the front of `out` and tells how many bytes they take.
+pub fn write_answer(answer: Answer<&[u8]>, out: &mut [u8]) -> Result<usize, Refusal>
+    ensures told { λ r. ⌜ r ≡ toldWriting (answerWords (answerWith (λ t. now t) (answer .entry))) (now (out .entry)) ⌝ }
+    ensures leaves { λ r. ⌜ now (out .exit) ≡ leftBy r (answerWords (answerWith (λ t. now t) (answer .entry))) (now (out .entry)) ⌝ }
+    ensures back { λ _. ⌜ One-answer ⌝ }
+{
+    try_answer(answer, out)
 }

@@ -2,6 +2,7 @@
 
 mod answer;
 mod heads;
+mod line;
 mod parts;
 mod read;
 mod reading;
@@ -11,6 +12,8 @@ mod write;
 
 pub use answer::read_answer;
 pub use answer::write_answer;
+pub use line::end_line;
+pub use line::word_line;
 pub use parts::Answer;
 pub use parts::AnswerClone;
 pub use read::read_call;
