@@ -3,6 +3,8 @@ use Rattle.calls.specs.declared.call.Call.{Call}
 use Rattle.calls.specs.declared.call.Call.the-variants.{Create, Kill, Suspend, SetLevel, ById, Send, Wait, Delay, Transfer, Look, Tick, Service}
 use Rattle.calls.specs.declared.call.Transfer as transfer
 use Rattle.calls.specs.declared.call.Transfer.the-variants as moves
+use Rattle.calls.specs.declared.call.TransferKind.{TransferKind}
+use Rattle.calls.specs.declared.call.TransferKind.the-variants as kind
 
 -- a transfer with f of its text, if it has one
 abbrev pub transferWith : {X Y : Type 0} → (X → Y) → transfer.Transfer X → transfer.Transfer Y
@@ -10,6 +12,13 @@ transferWith f (moves.Write text) = moves.Write (f text)
 transferWith f (moves.WriteLine text) = moves.WriteLine (f text)
 transferWith f (moves.Read size) = moves.Read size
 transferWith f moves.ReadLine = moves.ReadLine
+
+-- which transfer it is
+abbrev pub kindOf : {X : Type 0} → transfer.Transfer X → TransferKind
+kindOf (moves.Write text) = kind.Write
+kindOf (moves.WriteLine text) = kind.WriteLine
+kindOf (moves.Read size) = kind.Read
+kindOf moves.ReadLine = kind.ReadLine
 
 -- a call with f of its text, if it has one
 abbrev pub callWith : {X Y : Type 0} → (X → Y) → Call X → Call Y

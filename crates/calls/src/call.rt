@@ -1,7 +1,7 @@
 // The calls: everything that a host can hand to the monitor. `T` is how the text of a write is held: a slice in code,
 // a list of bytes in the definitions.
 
-ghost use Rattle.calls.specs.Calls.{callWith, transferWith};
+ghost use Rattle.calls.specs.Calls.{callWith, kindOf, transferWith};
 ghost use mathlib.Core.Path.{_≡_};
 
 #[derive(Clone, Copy)]
@@ -47,6 +47,15 @@ pub enum Transfer<T> {
     ReadLine,
 }
 
+// Which transfer it was, without what it moves: a task's record keeps this of its latest one.
+#[derive(Clone, Copy, PartialEq, Eq, Debug)]
+pub enum TransferKind {
+    Write,
+    WriteLine,
+    Read,
+    ReadLine,
+}
+
 #[derive(Clone, Copy)]
 pub enum LookedAt {
     Message,
@@ -64,6 +73,17 @@ impl<T: Drop> Transfer<T> {
             Transfer::WriteLine { text: _ } => Transfer::WriteLine { text },
             Transfer::Read { length } => Transfer::Read { length },
             Transfer::ReadLine => Transfer::ReadLine,
+        }
+    }
+
+    pub fn kind(&self) -> TransferKind
+        ensures { λ r. ⌜ r ≡ kindOf (now (self .entry)) ⌝ }
+    {
+        match self {
+            Transfer::Write { text: _ } => TransferKind::Write,
+            Transfer::WriteLine { text: _ } => TransferKind::WriteLine,
+            Transfer::Read { length: _ } => TransferKind::Read,
+            Transfer::ReadLine => TransferKind::ReadLine,
         }
     }
 }
