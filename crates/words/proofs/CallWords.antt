@@ -19,7 +19,7 @@ use Rattle.std.specs.declared.option.Option.{Option}
 use Rattle.std.specs.declared.option.Option.the-variants.{Some, None}
 use Rattle.words.specs.Format.{callWords, dataWord, dataWords, firstWord, lengthIn, textWords}
 use Rattle.words.specs.Heads.{bare, wordBytes}
-use Rattle.words.specs.Reading.{CreateRead, One-call, ReadsCall, Writable}
+use Rattle.words.specs.Reading.{CreateRead, One-call, ReadsCall, Shorter, Writable}
 use Rattle.words.specs.Text.{textLength}
 use Rattle.words.specs.Writing.{toldCall, toldWriting, wordsSize}
 use Rattle.words.specs.declared.reading.Reading.{Reading}
@@ -214,6 +214,16 @@ same-data c d more rest b e =
         (data-of d))
     (λ (s : Created c). same-created c d more rest (s .id) (s .level) (s .start) (s .message) (s .is) b e)
     (data-of c)
+
+pub shorter : (bytes : List ℕ) (r : Reading (Call (List ℕ)) (List ℕ)) → ReadsCall bytes r → Shorter bytes r
+shorter bytes End r = tt
+shorter bytes Unlawful r = tt
+shorter bytes (Found c rest) r =
+    let k = about-head (callWith length c) .0 in
+    let l = ap length (r .0) in
+    let m = length-append (callWords c) rest in
+    let n = length-append (firstWord (callWith length c)) (dataWords c) in
+    omega arith
 
 pub one-call : One-call
 one-call c rest End r = absurd (too-short [] (omega arith) c rest (sym r))

@@ -1,5 +1,5 @@
 -- What reading from the front of a list of bytes finds, in terms of the format.
-use Prim.Native.Nat.{ℕ, _≤_}
+use Prim.Native.Nat.{ℕ, _+_, _≤_}
 use lib.ListN.{length}
 use mathlib.Core.List.{List, [], _++_}
 use mathlib.Core.Path.{_≡_}
@@ -15,6 +15,12 @@ abbrev pub readingWith : {X Y R S : Type 0} → (X → Y) → (R → S) → Read
 readingWith f g End = End
 readingWith f g Unlawful = Unlawful
 readingWith f g (Found item rest) = Found (f item) (g rest)
+
+-- what is found takes at least a word, so reading on comes to an end
+abbrev pub Shorter : {X : Type 0} → List ℕ → Reading X (List ℕ) → Type 0
+Shorter bytes End = Unit {0}
+Shorter bytes Unlawful = Unit {0}
+Shorter bytes (Found item rest) = length rest + 4 ≤ length bytes
 
 -- a call can be written: a word has place for the length of its text or read
 abbrev pub Writable : Call (List ℕ) → Type 0

@@ -6,7 +6,7 @@ ghost use Rattle.calls.specs.declared.call.Call.{Call as Calls};
 ghost use Rattle.std.specs.Options.{Cases};
 ghost use Rattle.words.specs.Format.{callWords, dataWord, dataWords, lengthIn};
 ghost use Rattle.words.specs.Heads.{bare};
-ghost use Rattle.words.specs.Reading.{CreateRead, One-call, ReadsCall, readingWith};
+ghost use Rattle.words.specs.Reading.{CreateRead, One-call, ReadsCall, Shorter, readingWith};
 ghost use Rattle.words.specs.Text.{textLength};
 ghost use lib.ListN.{length, take};
 ghost use mathlib.Core.List.{List, _++_};
@@ -105,6 +105,7 @@ fn first_call<'b, 't>(bytes: &'b [u8], text: &'t mut [u8; LONGEST_TEXT]) -> Read
 // A text is put into `text`.
 pub fn read_call<'b, 't>(bytes: &'b [u8], text: &'t mut [u8; LONGEST_TEXT]) -> Reading<Call<&'t [u8]>, &'b [u8]>
     ensures reads { λ r. ⌜ ReadsCall (now (bytes .entry)) (readingWith (callWith (λ t. now t)) (λ rest. now rest) r) ⌝ }
+    ensures shorter { λ r. ⌜ Shorter (now (bytes .entry)) (readingWith (callWith (λ t. now t)) (λ rest. now rest) r) ⌝ }
     ensures only { λ _. ⌜ One-call ⌝ }
 {
     first_call(bytes, text)
