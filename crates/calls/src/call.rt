@@ -7,25 +7,50 @@ ghost use mathlib.Core.Path.{_≡_};
 #[derive(Clone, Copy)]
 pub enum Call<T> {
     // Makes a task; level 0 stands for the caller's level.
-    Create { id: u8, level: u8, start: u16, message: u16 },
+    Create {
+        id: u8,
+        level: u8,
+        start: u16,
+        message: u16,
+    },
     Kill,
     Suspend,
     // Gives the caller a level; level 0 stands for 1.
-    SetLevel { level: u8 },
+    SetLevel {
+        level: u8,
+    },
     // A call on the task that has the id.
-    ById { id: u8, call: ByIdCall },
+    ById {
+        id: u8,
+        call: ByIdCall,
+    },
     // Sends a message to a cell; a caller who stays waits until it is taken.
-    Send { cell: u8, message: u16, stay: bool },
+    Send {
+        cell: u8,
+        message: u16,
+        stay: bool,
+    },
     // Takes a cell's message, or waits for one.
-    Wait { cell: u8 },
-    Delay { ticks: u16 },
+    Wait {
+        cell: u8,
+    },
+    Delay {
+        ticks: u16,
+    },
     // Asks a unit to move bytes.
-    Transfer { unit: u8, transfer: Transfer<T> },
+    Transfer {
+        unit: u8,
+        transfer: Transfer<T>,
+    },
     // Tells a field of the caller's record.
-    Look { at: LookedAt },
+    Look {
+        at: LookedAt,
+    },
     Tick,
     // Lets a unit move one byte.
-    Service { unit: u8 },
+    Service {
+        unit: u8,
+    },
 }
 
 #[derive(Clone, Copy)]
@@ -94,15 +119,36 @@ impl<T: Drop> Call<T> {
         ensures { λ r. ⌜ r ≡ callWith (λ _. text) self ⌝ }
     {
         match self {
-            Call::Create { id, level, start, message } => Call::Create { id, level, start, message },
+            Call::Create {
+                id,
+                level,
+                start,
+                message,
+            } => Call::Create {
+                id,
+                level,
+                start,
+                message,
+            },
             Call::Kill => Call::Kill,
             Call::Suspend => Call::Suspend,
             Call::SetLevel { level } => Call::SetLevel { level },
             Call::ById { id, call } => Call::ById { id, call },
-            Call::Send { cell, message, stay } => Call::Send { cell, message, stay },
+            Call::Send {
+                cell,
+                message,
+                stay,
+            } => Call::Send {
+                cell,
+                message,
+                stay,
+            },
             Call::Wait { cell } => Call::Wait { cell },
             Call::Delay { ticks } => Call::Delay { ticks },
-            Call::Transfer { unit, transfer } => Call::Transfer { unit, transfer: transfer.with_text(text) },
+            Call::Transfer { unit, transfer } => Call::Transfer {
+                unit,
+                transfer: transfer.with_text(text),
+            },
             Call::Look { at } => Call::Look { at },
             Call::Tick => Call::Tick,
             Call::Service { unit } => Call::Service { unit },

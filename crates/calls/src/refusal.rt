@@ -55,26 +55,28 @@ impl Refusal {
     pub fn with_number(number: u16) -> Option<Refusal>
         ensures { λ r. ⌜ Cases r ((x : Refusal) → refusalNumber x ≡ number → ⊥) (λ x. refusalNumber x ≡ number) ⌝ }
     {
-        Some(match number {
-            1 => Refusal::NoTask,
-            2 => Refusal::NoFreeRecord,
-            3 => Refusal::IdInUse,
-            4 => Refusal::NoSuchId,
-            5 => Refusal::AtUnit,
-            6 => Refusal::CellFull,
-            7 => Refusal::NoMessage,
-            8 => Refusal::NoTicks,
-            9 => Refusal::NoSuchUnit,
-            10 => Refusal::BadLength,
-            11 => Refusal::NoLineEnd,
-            12 => Refusal::NoRequest,
-            13 => Refusal::ClockAtEnd,
-            14 => Refusal::Unlawful,
-            15 => Refusal::NoClock,
-            16 => Refusal::OutOfRange,
-            17 => Refusal::NoRoom,
-            _ => return None,
-        })
+        Some(
+            match number {
+                1 => Refusal::NoTask,
+                2 => Refusal::NoFreeRecord,
+                3 => Refusal::IdInUse,
+                4 => Refusal::NoSuchId,
+                5 => Refusal::AtUnit,
+                6 => Refusal::CellFull,
+                7 => Refusal::NoMessage,
+                8 => Refusal::NoTicks,
+                9 => Refusal::NoSuchUnit,
+                10 => Refusal::BadLength,
+                11 => Refusal::NoLineEnd,
+                12 => Refusal::NoRequest,
+                13 => Refusal::ClockAtEnd,
+                14 => Refusal::Unlawful,
+                15 => Refusal::NoClock,
+                16 => Refusal::OutOfRange,
+                17 => Refusal::NoRoom,
+                _ => return None,
+            },
+        )
     }
 }
 

@@ -7,7 +7,6 @@ ghost use Prim.Native.Nat.{_<_};
 ghost use Rattle.std.specs.Options.{Cases as BySome};
 ghost use Rattle.std.specs.Vec.{made};
 ghost use lib.ListN.{length};
-
 use calls::Call;
 use files::read_front;
 use show::Shown;
@@ -58,7 +57,11 @@ fn print_call(rt: &LibcRuntime, place: usize, call: Call<&[u8]>, words: &[u8]) -
 }
 
 // Prints the line of the first call and counts it; tells the rest, or `None` where no call is.
-fn list_first<'b>(rt: &LibcRuntime, bytes: &'b [u8], totals: &mut Totals) -> io::Result<Option<&'b [u8]>>
+fn list_first<'b>(
+    rt: &LibcRuntime,
+    bytes: &'b [u8],
+    totals: &mut Totals,
+) -> io::Result<Option<&'b [u8]>>
     ensures { λ r. ⌜ made r (λ o. BySome o (Unit {0}) (λ rest. length (now rest) < length (now (bytes .entry)))) ⌝ }
 {
     let mut text = [0; LONGEST_TEXT];
@@ -79,7 +82,11 @@ fn list_first<'b>(rt: &LibcRuntime, bytes: &'b [u8], totals: &mut Totals) -> io:
 
 // Prints a line for each call up to the end or to a place where no call is, and counts.
 fn list(rt: &LibcRuntime, bytes: &[u8]) -> io::Result<Totals> {
-    let mut totals = Totals { calls: 0, words: 0, changed: 0 };
+    let mut totals = Totals {
+        calls: 0,
+        words: 0,
+        changed: 0,
+    };
     let mut rest = bytes;
     while let Some(after) = list_first(rt, rest, &mut totals)? {
         rest = after;
@@ -94,7 +101,11 @@ fn list(rt: &LibcRuntime, bytes: &[u8]) -> io::Result<Totals> {
 fn main(rt: LibcRuntime) -> io::Result<()> {
     let bytes = read_front(&rt, "calls.bin")?;
     let totals = list(&rt, bytes.as_slice())?;
-    let Totals { calls, words, changed } = totals;
+    let Totals {
+        calls,
+        words,
+        changed,
+    } = totals;
     if changed == 0 {
         println!(rt, "written back, all calls came out as the same words")?;
     } else {

@@ -65,8 +65,16 @@ pub struct Shown<'a>(pub Call<&'a [u8]>);
 pub impl fmt::Display for Shown<'_> as ShownDisplay {
     fn fmt<W: fmt::Write>(&self, f: &mut fmt::Formatter<W>) -> fmt::Result {
         match self.0 {
-            Call::Create { id, level, start, message } => {
-                write!(f, "create id={id} level={level} start={start} message={message}")
+            Call::Create {
+                id,
+                level,
+                start,
+                message,
+            } => {
+                write!(
+                    f,
+                    "create id={id} level={level} start={start} message={message}"
+                )
             }
             Call::Kill => f.write_str("kill"),
             Call::Suspend => f.write_str("suspend"),
@@ -75,16 +83,26 @@ pub impl fmt::Display for Shown<'_> as ShownDisplay {
                 let call = ShownById(call);
                 write!(f, "by-id id={id} {call}")
             }
-            Call::Send { cell, message, stay } => write!(f, "send cell={cell} message={message} stay={stay}"),
+            Call::Send {
+                cell,
+                message,
+                stay,
+            } => write!(f, "send cell={cell} message={message} stay={stay}"),
             Call::Wait { cell } => write!(f, "wait cell={cell}"),
             Call::Delay { ticks } => write!(f, "delay ticks={ticks}"),
             Call::Transfer { unit, transfer } => {
                 let transfer = ShownTransfer(transfer);
                 write!(f, "transfer unit={unit} {transfer}")
             }
-            Call::Look { at: LookedAt::Message } => f.write_str("look message"),
-            Call::Look { at: LookedAt::Start } => f.write_str("look start"),
-            Call::Look { at: LookedAt::Outcome } => f.write_str("look outcome"),
+            Call::Look {
+                at: LookedAt::Message,
+            } => f.write_str("look message"),
+            Call::Look {
+                at: LookedAt::Start,
+            } => f.write_str("look start"),
+            Call::Look {
+                at: LookedAt::Outcome,
+            } => f.write_str("look outcome"),
             Call::Tick => f.write_str("tick"),
             Call::Service { unit } => write!(f, "service unit={unit}"),
         }

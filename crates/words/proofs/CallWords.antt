@@ -184,16 +184,16 @@ created-too c id level b =
     ⊎-elim
     (λ (t : Texted c). (0, 0, t .whole ∙ ap (callWith (λ _. t .text)) b))
     (λ (t : Created c).
-        let i = ap (λ d. bare (callWith length d)) (t .is) in
-        let is = t .is in
-        (t .start, t .message, (cc)))
+    let i = ap (λ d. bare (callWith length d)) (t .is) in
+    let is = t .is in
+    (t .start, t .message, (cc)))
     (data-of c)
 
 same-created : (c d : Call (List ℕ)) (more rest : List ℕ) (id level start message : ℕ) → c ≡ Create id level start message → bare (callWith length c) ≡ bare (callWith length d) → dataWords c ++ more ≡ dataWords d ++ rest → (c ≡ d) × (more ≡ rest)
 same-created c d more rest id level start message is b e =
     let t = created-too d id level (sym b ∙ ap (λ x. bare (callWith length x)) is) in
     let f : (dataWord start ++ dataWord message) ++ more ≡ (dataWord (t .0) ++ dataWord (t .1)) ++ rest =
-        ap (λ x. dataWords x ++ more) (sym is) ∙ e ∙ ap (λ x. dataWords x ++ rest) (t .2) in
+    ap (λ x. dataWords x ++ more) (sym is) ∙ e ∙ ap (λ x. dataWords x ++ rest) (t .2) in
     let s : start ≡ t .0 = same-number start (t .0) (cc) (cc) in
     let m : message ≡ t .1 = same-number message (t .1) (cc) (cc) in
     let d-is = t .2 in
@@ -203,15 +203,15 @@ same-data : (c d : Call (List ℕ)) (more rest : List ℕ) → bare (callWith le
 same-data c d more rest b e =
     ⊎-elim
     (λ (s : Texted c).
-        ⊎-elim
-        (λ (t : Texted d).
-            let k : length (s .text) ≡ length (t .text) = s .size ∙ ap textLength b ∙ sym (t .size) in
-            let p = same-text (s .text) (t .text) more rest k (ap (λ x. x ++ more) (sym (s .words)) ∙ e ∙ ap (λ x. x ++ rest) (t .words)) in
-            (s .whole ∙ ap (callWith (λ _. s .text)) b ∙ ap (λ x. callWith (λ _. x) (bare (callWith length d))) (p .0) ∙ sym (t .whole), p .1))
-        (λ (t : Created d).
-            let p = same-created d c rest more (t .id) (t .level) (t .start) (t .message) (t .is) (sym b) (sym e) in
-            (sym (p .0), sym (p .1)))
-        (data-of d))
+    ⊎-elim
+    (λ (t : Texted d).
+    let k : length (s .text) ≡ length (t .text) = s .size ∙ ap textLength b ∙ sym (t .size) in
+    let p = same-text (s .text) (t .text) more rest k (ap (λ x. x ++ more) (sym (s .words)) ∙ e ∙ ap (λ x. x ++ rest) (t .words)) in
+    (s .whole ∙ ap (callWith (λ _. s .text)) b ∙ ap (λ x. callWith (λ _. x) (bare (callWith length d))) (p .0) ∙ sym (t .whole), p .1))
+    (λ (t : Created d).
+    let p = same-created d c rest more (t .id) (t .level) (t .start) (t .message) (t .is) (sym b) (sym e) in
+    (sym (p .0), sym (p .1)))
+    (data-of d))
     (λ (s : Created c). same-created c d more rest (s .id) (s .level) (s .start) (s .message) (s .is) b e)
     (data-of c)
 

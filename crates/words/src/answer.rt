@@ -55,7 +55,11 @@ fn reply_of(word: u32) -> Option<(Option<u8>, Result<u16, Refusal>)>
     if sub_kind(word) != 0 {
         return None;
     }
-    let running = if high(word) == 255 { None } else { Some(high(word)) };
+    let running = if high(word) == 255 {
+        None
+    } else {
+        Some(high(word))
+    };
     match kind(word) {
         12 => Some((running, Ok(number(word)))),
         13 => {
@@ -72,11 +76,18 @@ fn reply_of(word: u32) -> Option<(Option<u8>, Result<u16, Refusal>)>
 fn following_size(bytes: &[u8], reply: Result<u16, Refusal>) -> usize
     ensures { λ r. ⌜ r ≡ cond (startsData (now (bytes .entry))) (replySize reply) 0 ⌝ }
 {
-    if starts_data(bytes) { reply_size(reply) } else { 0 }
+    if starts_data(bytes) {
+        reply_size(reply)
+    } else {
+        0
+    }
 }
 
 // The first answer of a list of words.
-fn first_answer<'b, 't>(bytes: &'b [u8], text: &'t mut [u8; LONGEST_TEXT]) -> Reading<Answer<&'t [u8]>, &'b [u8]>
+fn first_answer<'b, 't>(
+    bytes: &'b [u8],
+    text: &'t mut [u8; LONGEST_TEXT],
+) -> Reading<Answer<&'t [u8]>, &'b [u8]>
     ensures { λ r. ⌜ ReadsAnswer (now (bytes .entry)) (readingWith (answerWith (λ t. now t)) (λ rest. now rest) r) ⌝ }
 {
     if bytes.is_empty() {
@@ -95,13 +106,20 @@ fn first_answer<'b, 't>(bytes: &'b [u8], text: &'t mut [u8; LONGEST_TEXT]) -> Re
     if starts_data(after) {
         return Reading::Unlawful;
     }
-    let item = Answer { running, reply, text: front(text, size) };
+    let item = Answer {
+        running,
+        reply,
+        text: front(text, size),
+    };
     Reading::Found { item, rest: after }
 }
 
 // Takes the first answer off a list of words: the answer and the rest, or that there is none, or that no answer is
 // there. The bytes of a read are put into `text`.
-pub fn read_answer<'b, 't>(bytes: &'b [u8], text: &'t mut [u8; LONGEST_TEXT]) -> Reading<Answer<&'t [u8]>, &'b [u8]>
+pub fn read_answer<'b, 't>(
+    bytes: &'b [u8],
+    text: &'t mut [u8; LONGEST_TEXT],
+) -> Reading<Answer<&'t [u8]>, &'b [u8]>
     ensures reads { λ r. ⌜ ReadsAnswer (now (bytes .entry)) (readingWith (answerWith (λ t. now t)) (λ rest. now rest) r) ⌝ }
     ensures only { λ _. ⌜ One-answer ⌝ }
 {

@@ -83,12 +83,21 @@ pub(crate) fn first_word(call: Call<usize>) -> u32
     ensures { λ r. ⌜ wordBytes r ≡ firstWord call ⌝ }
 {
     match call {
-        Call::Create { id, level, start: _, message: _ } => word(1, 0, id, level, 0),
+        Call::Create {
+            id,
+            level,
+            start: _,
+            message: _,
+        } => word(1, 0, id, level, 0),
         Call::Kill => word(2, 0, 0, 0, 0),
         Call::Suspend => word(2, 1, 0, 0, 0),
         Call::SetLevel { level } => word(2, 2, 0, 0, level),
         Call::ById { id, call } => by_id_word(id, call),
-        Call::Send { cell, message, stay } => word_with(5, stay as u8, cell, message),
+        Call::Send {
+            cell,
+            message,
+            stay,
+        } => word_with(5, stay as u8, cell, message),
         Call::Wait { cell } => word(6, 0, cell, 0, 0),
         Call::Delay { ticks } => word_with(7, 0, 0, ticks),
         Call::Transfer { unit, transfer } => transfer_word(unit, transfer),
@@ -120,29 +129,47 @@ fn by_id_call(word: u32) -> Option<Call<usize>>
         4 => ByIdCall::Status,
         _ => return None,
     };
-    Some(Call::ById { id: middle(word), call })
+    Some(Call::ById {
+        id: middle(word),
+        call,
+    })
 }
 
 fn transfer_call(word: u32) -> Option<Call<usize>>
     ensures { λ r. ⌜ r ≡ transferCall (subOf word) (highOf word) (lowOf word) ⌝ }
 {
     let transfer = match sub_kind(word) {
-        0 => Transfer::Write { text: low(word) as usize },
-        1 => Transfer::WriteLine { text: low(word) as usize },
-        2 => Transfer::Read { length: low(word) as usize },
+        0 => Transfer::Write {
+            text: low(word) as usize,
+        },
+        1 => Transfer::WriteLine {
+            text: low(word) as usize,
+        },
+        2 => Transfer::Read {
+            length: low(word) as usize,
+        },
         3 => Transfer::ReadLine,
         _ => return None,
     };
-    Some(Call::Transfer { unit: high(word), transfer })
+    Some(Call::Transfer {
+        unit: high(word),
+        transfer,
+    })
 }
 
 fn look_call(word: u32) -> Option<Call<usize>>
     ensures { λ r. ⌜ r ≡ lookCall (subOf word) ⌝ }
 {
     match sub_kind(word) {
-        0 => Some(Call::Look { at: LookedAt::Message }),
-        1 => Some(Call::Look { at: LookedAt::Start }),
-        2 => Some(Call::Look { at: LookedAt::Outcome }),
+        0 => Some(Call::Look {
+            at: LookedAt::Message,
+        }),
+        1 => Some(Call::Look {
+            at: LookedAt::Start,
+        }),
+        2 => Some(Call::Look {
+            at: LookedAt::Outcome,
+        }),
         _ => None,
     }
 }
@@ -152,12 +179,23 @@ fn likely_call(word: u32) -> Option<Call<usize>>
     ensures { λ r. ⌜ r ≡ likelyOf word ⌝ }
 {
     match kind(word) {
-        1 => Some(Call::Create { id: high(word), level: middle(word), start: 0, message: 0 }),
+        1 => Some(Call::Create {
+            id: high(word),
+            level: middle(word),
+            start: 0,
+            message: 0,
+        }),
         2 => own_call(word),
         3 => by_id_call(word),
-        5 => Some(Call::Send { cell: high(word), message: number(word), stay: sub_kind(word) == 1 }),
+        5 => Some(Call::Send {
+            cell: high(word),
+            message: number(word),
+            stay: sub_kind(word) == 1,
+        }),
         6 => Some(Call::Wait { cell: high(word) }),
-        7 => Some(Call::Delay { ticks: number(word) }),
+        7 => Some(Call::Delay {
+            ticks: number(word),
+        }),
         8 => transfer_call(word),
         9 => Some(Call::Service { unit: high(word) }),
         10 => Some(Call::Tick),
@@ -173,5 +211,9 @@ pub(crate) fn call_of(word: u32) -> Option<Call<usize>>
     let Some(call) = likely_call(word) else {
         return None;
     };
-    if first_word(call) == word { Some(call) } else { None }
+    if first_word(call) == word {
+        Some(call)
+    } else {
+        None
+    }
 }

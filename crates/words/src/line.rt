@@ -14,7 +14,11 @@ fn hex_digit(digit: u8) -> u8
     requires { ⌜ digit < 16 ⌝ }
     ensures { λ r. ⌜ r ≡ hexDigit digit ⌝ }
 {
-    if digit < 10 { b'0' + digit } else { b'A' + (digit - 10) }
+    if digit < 10 {
+        b'0' + digit
+    } else {
+        b'A' + (digit - 10)
+    }
 }
 
 // A word's line: eight capital hexadecimal digits and byte 10.

@@ -27,7 +27,11 @@ fn read_number(bytes: &[u8]) -> Option<(u16, &[u8])>
     let Some((word, rest)) = take_word(bytes) else {
         return None;
     };
-    if word > 0xffff { None } else { Some((number(word), rest)) }
+    if word > 0xffff {
+        None
+    } else {
+        Some((number(word), rest))
+    }
 }
 
 // The length of a call's text.
@@ -55,7 +59,15 @@ fn read_create<T: Drop>(id: u8, level: u8, bytes: &[u8]) -> Option<(Call<T>, &[u
     let Some((message, rest)) = read_number(rest) else {
         return None;
     };
-    Some((Call::Create { id, level, start, message }, rest))
+    Some((
+        Call::Create {
+            id,
+            level,
+            start,
+            message,
+        },
+        rest,
+    ))
 }
 
 // The first bytes of a text.
@@ -67,12 +79,21 @@ pub(crate) fn front(text: &[u8; LONGEST_TEXT], size: usize) -> &[u8]
 }
 
 // Goes on with the data words of a call whose first word told `head`.
-fn read_data<'b, 't>(head: Call<usize>, bytes: &'b [u8], text: &'t mut [u8; LONGEST_TEXT]) -> Option<(Call<&'t [u8]>, &'b [u8])>
+fn read_data<'b, 't>(
+    head: Call<usize>,
+    bytes: &'b [u8],
+    text: &'t mut [u8; LONGEST_TEXT],
+) -> Option<(Call<&'t [u8]>, &'b [u8])>
     requires short { ⌜ lengthIn head ≤ 255 ⌝ }
     requires bare { ⌜ head ≡ bare head ⌝ }
     ensures { λ r. ⌜ Cases r ((c : Calls (List ℕ)) (more : List ℕ) → bare (callWith length c) ≡ head → now (bytes .entry) ≡ dataWords c ++ more → ⊥) (λ p. (bare (callWith length (callWith (λ t. now t) (p .0))) ≡ head) × (now (bytes .entry) ≡ dataWords (callWith (λ t. now t) (p .0)) ++ now (p .1))) ⌝ }
 {
-    if let Call::Create { id, level, start: _, message: _ } = head {
+    if let Call::Create {
+        id,
+        level,
+        start: _,
+        message: _,
+    } = head {
         return read_create(id, level, bytes);
     }
     let size = text_length(head);
@@ -83,7 +104,10 @@ fn read_data<'b, 't>(head: Call<usize>, bytes: &'b [u8], text: &'t mut [u8; LONG
 }
 
 // The first call of a list of words.
-fn first_call<'b, 't>(bytes: &'b [u8], text: &'t mut [u8; LONGEST_TEXT]) -> Reading<Call<&'t [u8]>, &'b [u8]>
+fn first_call<'b, 't>(
+    bytes: &'b [u8],
+    text: &'t mut [u8; LONGEST_TEXT],
+) -> Reading<Call<&'t [u8]>, &'b [u8]>
     ensures { λ r. ⌜ ReadsCall (now (bytes .entry)) (readingWith (callWith (λ t. now t)) (λ rest. now rest) r) ⌝ }
 {
     if bytes.is_empty() {
@@ -103,7 +127,10 @@ fn first_call<'b, 't>(bytes: &'b [u8], text: &'t mut [u8; LONGEST_TEXT]) -> Read
 
 // Takes the first call off a list of words: the call and the rest, or that there is none, or that no call is there.
 // A text is put into `text`.
-pub fn read_call<'b, 't>(bytes: &'b [u8], text: &'t mut [u8; LONGEST_TEXT]) -> Reading<Call<&'t [u8]>, &'b [u8]>
+pub fn read_call<'b, 't>(
+    bytes: &'b [u8],
+    text: &'t mut [u8; LONGEST_TEXT],
+) -> Reading<Call<&'t [u8]>, &'b [u8]>
     ensures reads { λ r. ⌜ ReadsCall (now (bytes .entry)) (readingWith (callWith (λ t. now t)) (λ rest. now rest) r) ⌝ }
     ensures shorter { λ r. ⌜ Shorter (now (bytes .entry)) (readingWith (callWith (λ t. now t)) (λ rest. now rest) r) ⌝ }
     ensures only { λ _. ⌜ One-call ⌝ }

@@ -25,7 +25,11 @@ fn holds_text(word: u32, left: usize) -> bool
 }
 
 // Takes a text of `size` bytes off the data words at the front of `bytes` and tells the rest.
-pub(crate) fn read_text<'b>(bytes: &'b [u8], size: usize, text: &mut [u8; LONGEST_TEXT]) -> Option<&'b [u8]>
+pub(crate) fn read_text<'b>(
+    bytes: &'b [u8],
+    size: usize,
+    text: &mut [u8; LONGEST_TEXT],
+) -> Option<&'b [u8]>
     requires { ⌜ size ≤ 255 ⌝ }
     ensures { λ r. ⌜ Cases r ((t : List ℕ) (more : List ℕ) → length t ≡ size → now (bytes .entry) ≡ textWords t ++ more → ⊥) (λ rest. now (bytes .entry) ≡ textWords (take size (now (text .exit))) ++ now rest) ⌝ }
 {

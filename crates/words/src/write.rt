@@ -66,9 +66,20 @@ fn size(call: Call<usize>) -> usize
     ensures { λ r. ⌜ r ≡ wordsSize call ⌝ }
 {
     match call {
-        Call::Create { id: _, level: _, start: _, message: _ } => 12,
-        Call::Transfer { unit: _, transfer: Transfer::Write { text } } => 4 + (text + 2) / 3 * 4,
-        Call::Transfer { unit: _, transfer: Transfer::WriteLine { text } } => 4 + (text + 2) / 3 * 4,
+        Call::Create {
+            id: _,
+            level: _,
+            start: _,
+            message: _,
+        } => 12,
+        Call::Transfer {
+            unit: _,
+            transfer: Transfer::Write { text },
+        } => 4 + (text + 2) / 3 * 4,
+        Call::Transfer {
+            unit: _,
+            transfer: Transfer::WriteLine { text },
+        } => 4 + (text + 2) / 3 * 4,
         _ => 4,
     }
 }
@@ -79,12 +90,23 @@ fn put_data(out: &mut [u8], call: Call<&[u8]>)
     ensures { λ _. ⌜ now (out .exit) ≡ laid 4 (dataWords (callWith (λ t. now t) (call .entry))) (now (out .entry)) ⌝ }
 {
     match call {
-        Call::Create { id: _, level: _, start, message } => {
+        Call::Create {
+            id: _,
+            level: _,
+            start,
+            message,
+        } => {
             put_word(out, 4, word_with(0, 0, 0, start));
             put_word(out, 8, word_with(0, 0, 0, message));
         }
-        Call::Transfer { unit: _, transfer: Transfer::Write { text } } => put_text(out, 4, text),
-        Call::Transfer { unit: _, transfer: Transfer::WriteLine { text } } => put_text(out, 4, text),
+        Call::Transfer {
+            unit: _,
+            transfer: Transfer::Write { text },
+        } => put_text(out, 4, text),
+        Call::Transfer {
+            unit: _,
+            transfer: Transfer::WriteLine { text },
+        } => put_text(out, 4, text),
         _ => {}
     }
 }

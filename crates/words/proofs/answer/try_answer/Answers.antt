@@ -32,6 +32,7 @@ returns c =
     let size = answer-size a in
     let m = laid-more 0 4 (wordBytes (c .word-of .result)) (textWords (a .text)) out refl (omega arith) in
     let first : wordBytes (c .word-of .result) ≡ replyWord (a .running) (a .reply) = c .word-of .ensures in
-    record
-      { told = sym (told-size (answerWords a) out _ (sym size) (c .if-out-size .left))
-      ; leaves = c .put-text .ensures ∙ ap (laid 4 (textWords (a .text))) (c .put-word .ensures) ∙ sym m ∙ ap (λ w. laid 0 (w ++ textWords (a .text)) out) first ∙ ap (λ n. answerWords a ++ drop n out) size }
+    record {
+      told = sym (told-size (answerWords a) out _ (sym size) (c .if-out-size .left));
+      leaves = c .put-text .ensures ∙ ap (laid 4 (textWords (a .text))) (c .put-word .ensures) ∙ sym m ∙ ap (λ w. laid 0 (w ++ textWords (a .text)) out) first ∙ ap (λ n. answerWords a ++ drop n out) size;
+    }

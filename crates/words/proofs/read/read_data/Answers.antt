@@ -23,5 +23,5 @@ returns c =
     let words = c .in-Some .ensures tt in
     let size = c .text-length-size .ensures in
     let k : length (now (c .front .result)) ≡ textLength (c .args .head) =
-        ap length f ∙ length-take-le (c .text-length-size .result) (c .read-text .last .text) (search needs) ∙ size in
+    ap length f ∙ length-take-le (c .text-length-size .result) (c .read-text .last .text) (search needs) ∙ size in
     this-text (λ t. now t) (c .args .head) (c .front .result) (c .with-text .result) (c .args .bytes .now) (c .in-Some .rest .now) (c .pre .bare) (c .in-rest .not-Create) k (c .with-text .ensures) (cc)
