@@ -10,14 +10,14 @@ mod tests {
     use calls::RefusalPartialEq;
     use calls::Stop;
     use calls::Transfer;
+    use report::end_line;
+    use report::word_line;
     use std::test::*;
     use words::Answer;
     use words::LONGEST_TEXT;
     use words::Reading;
-    use words::end_line;
     use words::read_answer;
     use words::read_call;
-    use words::word_line;
     use words::write_answer;
     use words::write_call;
 

@@ -5,4 +5,3 @@ pub mod Text
 pub mod Reading
 pub mod Writing
 pub mod Answers
-pub mod Lines

@@ -1,8 +1,7 @@
-// The word format: calls and answers written as 32-bit words and read back, and the text lines of a run's report.
+// The word format: calls and answers written as 32-bit words and read back.
 
 mod answer;
 mod heads;
-mod line;
 mod parts;
 mod read;
 mod reading;
@@ -12,8 +11,6 @@ mod write;
 
 pub use answer::read_answer;
 pub use answer::write_answer;
-pub use line::end_line;
-pub use line::word_line;
 pub use parts::Answer;
 pub use parts::AnswerClone;
 pub use read::read_call;

@@ -1,0 +1,4 @@
+-- The definitions that the contracts cite.
+pub mod Lists
+pub mod Chains
+pub mod Laws

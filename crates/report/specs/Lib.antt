@@ -1,0 +1,2 @@
+-- What the lines of a report are.
+pub mod Lines
