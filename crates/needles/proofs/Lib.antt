@@ -1,0 +1,3 @@
+-- Lemmas about the rows of the needle bank.
+mod Bytes
+mod Filled

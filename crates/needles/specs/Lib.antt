@@ -1,0 +1,3 @@
+-- The rows of the needle bank, and what the bank means.
+pub mod Rows
+pub mod Bank
