@@ -1,0 +1,2 @@
+-- What answers do to a generation.
+pub mod Answers
