@@ -21,10 +21,10 @@ abbrev pub draftRate : Draft → ClockRate
 draftRate d = d .rate
 
 abbrev pub sealedTasks : Sealed → ℕ
-sealedTasks g = g .tasks
+sealedTasks g = g .«task_count»
 
 abbrev pub sealedRate : Sealed → ClockRate
-sealedRate g = g .rate
+sealedRate g = g .«clock_rate»
 
 -- there are 1 to 64 tasks
 abbrev pub lawfulTasks : ℕ → Bool

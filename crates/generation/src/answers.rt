@@ -90,7 +90,10 @@ impl Draft {
         ensures rate { λ r. ⌜ sealedRate r ≡ draftRate self ⌝ }
     {
         let Draft { tasks, rate } = self;
-        Sealed { tasks, rate }
+        Sealed {
+            task_count: tasks,
+            clock_rate: rate,
+        }
     }
 }
 
@@ -98,12 +101,12 @@ impl Sealed {
     pub fn tasks(&self) -> u8
         ensures { λ r. ⌜ r ≡ sealedTasks (now (self .entry)) ⌝ }
     {
-        self.tasks
+        self.task_count
     }
 
     pub fn rate(&self) -> ClockRate
         ensures { λ r. ⌜ r ≡ sealedRate (now (self .entry)) ⌝ }
     {
-        self.rate
+        self.clock_rate
     }
 }

@@ -32,8 +32,8 @@ pub struct Draft {
 // A generation that takes no more answers.
 #[derive(Drop)]
 pub struct Sealed {
-    tasks: u8,
-    rate: ClockRate,
-    ghost some: { 1 ≤ tasks },
-    ghost few: { tasks ≤ 64 },
+    task_count: u8,
+    clock_rate: ClockRate,
+    ghost some: { 1 ≤ «task_count» },
+    ghost few: { «task_count» ≤ 64 },
 }
