@@ -1,0 +1,4 @@
+-- The definitions that the contracts cite.
+pub mod Waits
+pub mod Due
+pub mod View

@@ -1,0 +1,16 @@
+pub mod Samples
+pub mod Shapes
+pub mod Refused
+pub mod Counts
+pub mod Places
+pub mod Tidy
+pub mod Waits
+pub mod Kept
+pub mod Fields
+pub mod Moves
+pub mod Sounds
+pub mod Requests
+pub mod Messages
+pub mod Owed
+pub mod Bytes
+pub mod Together
