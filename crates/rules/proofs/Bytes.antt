@@ -23,7 +23,7 @@ use Rattle.chain.specs.Lists.{count, has, one}
 use Rattle.chain.proofs.Members.{some-count}
 use Rattle.unit.specs.Medium.{Medium, fresh}
 use Rattle.rules.specs.State.{Request, State, begin, queueOf, taskOf, unitOf}
-use Rattle.rules.specs.Acts.{Deed, Done}
+use Rattle.rules.specs.Acts.{Done}
 use Rattle.rules.specs.Records.{askers, bit}
 use Rattle.rules.specs.Transfers.{Move, asking, ending, enqueue, goingOn, moveOf, writes}
 use Rattle.rules.specs.Rules.{Step, apply}
@@ -35,7 +35,7 @@ use Rattle.rules.proofs.Moves.{Apart, AtUnit, asks-it, hadFrom, load, moved, m
 use Rattle.rules.proofs.Requests.{Fitting, asked-load, asked-others, asker-of, caller-asks-not, end-load, end-others, first-here, first-only, fitting, on-load, on-others, queue-here, queue-once, queue-there}
 use Rattle.rules.proofs.Owed.{count-some, first-owes, has-enqueued}
 use Rattle.rules.proofs.Shapes.{Asked, Shape, shape}
-use Rattle.rules.proofs.Sounds.{Good, good-begin, good-step}
+use Rattle.rules.proofs.Sounds.{good-begin, sound-step}
 
 abbrev Entered : State → Step → Done → Entry
 Entered s x d = record { before = s; step = x; did = d }
@@ -84,14 +84,14 @@ module _ (s : State) (h : Sound s) (t u : ℕ) (w : waitsAt t u s ≡ true) wher
   grows : {x : Step} {d : Done} → Shape s x d → Grown (taskOf s t .bytes) (taskOf (d .state) t .bytes)
   grows {x} {d} z = ⊎-elim (λ (p : Apart s x d). grows-load (d .state) (p .loads t (asker-of s h u t asks-here))) (λ (p : AtUnit s x d). grows-at p) (sorted-out s (h .onePlace) z)
 
-grown-run : (t u : ℕ) (ds : List Deed) (s : State) (xs : List Step) → All Lawful xs → Good ds s → waitsAt t u s ≡ true → Grown (taskOf s t .bytes) (taskOf (stateAfter s (during t u (history s xs))) t .bytes)
-grown-run t u ds s [] ok g w = grown-same _ _ refl
-grown-run t u ds s (x ∷ xs) ok g w =
+grown-run : (t u : ℕ) (s : State) (xs : List Step) → All Lawful xs → Sound s → waitsAt t u s ≡ true → Grown (taskOf s t .bytes) (taskOf (stateAfter s (during t u (history s xs))) t .bytes)
+grown-run t u s [] ok g w = grown-same _ _ refl
+grown-run t u s (x ∷ xs) ok g w =
     let s′ = apply x s .state in
-    let one = grows s (g .sound) t u w (shape s x) in
+    let one = grows s g t u w (shape s x) in
     subst (λ (l : List Entry). Grown (taskOf s t .bytes) (taskOf (stateAfter s l) t .bytes)) (sym (during-more t u s x (apply x s) (history s′ xs) w))
     (⊎-elim
-    (λ (b : waitsAt t u s′ ≡ true). grown-then _ _ _ one (grown-run t u (ds ++ apply x s .deeds) s′ xs (ok .1) (good-step ds s x (ok .0) g) b))
+    (λ (b : waitsAt t u s′ ≡ true). grown-then _ _ _ one (grown-run t u s′ xs (ok .1) (sound-step s x (ok .0) g) b))
     (λ (b : waitsAt t u s′ ≡ false). subst (λ (l : List Entry). Grown (taskOf s t .bytes) (taskOf (stateAfter s′ l) t .bytes)) (sym (during-none t u s′ xs b)) one)
     (cases-bool (waitsAt t u s′)))
 
@@ -160,15 +160,15 @@ module _ (s : State) (h : Sound s) (t u : ℕ) (w : waitsAt t u s ≡ true) wher
   own-step : {x : Step} {d : Done} → Shape s x d → bit (takesFrom t u (Entered s x d)) 1 + ownAfter t u (d .state) ≤ own t (queueOf s u)
   own-step {x} {d} z = ⊎-elim (λ (p : Apart s x d). own-same x d (p .unserved u) (ap (λ (qs : List (List Request)). getD qs u []) (p .queues))) (λ (p : AtUnit s x d). own-at p) (sorted-out s (h .onePlace) z)
 
-own-run : (t u : ℕ) (ds : List Deed) (s : State) (xs : List Step) → All Lawful xs → Good ds s → waitsAt t u s ≡ true → countBy (takesFrom t u) (during t u (history s xs)) ≤ own t (queueOf s u)
-own-run t u ds s [] ok g w = omega arith
-own-run t u ds s (x ∷ xs) ok g w =
+own-run : (t u : ℕ) (s : State) (xs : List Step) → All Lawful xs → Sound s → waitsAt t u s ≡ true → countBy (takesFrom t u) (during t u (history s xs)) ≤ own t (queueOf s u)
+own-run t u s [] ok g w = omega arith
+own-run t u s (x ∷ xs) ok g w =
     let s′ = apply x s .state in
-    let one = own-step s (g .sound) t u w (shape s x) in
+    let one = own-step s g t u w (shape s x) in
     let c = sumBy-cons (λ e. cond (takesFrom t u e) 1 0) (entry s x) (during t u (history s′ xs)) in
     subst (λ (l : List Entry). countBy (takesFrom t u) l ≤ own t (queueOf s u)) (sym (during-more t u s x (apply x s) (history s′ xs) w))
     (⊎-elim
-    (λ (b : waitsAt t u s′ ≡ true). let r = own-run t u (ds ++ apply x s .deeds) s′ xs (ok .1) (good-step ds s x (ok .0) g) b in let z : ownAfter t u s′ ≡ own t (queueOf s′ u) = ap (λ (b : Bool). cond b (own t (queueOf s′ u)) 0) b in omega arith)
+    (λ (b : waitsAt t u s′ ≡ true). let r = own-run t u s′ xs (ok .1) (sound-step s x (ok .0) g) b in let z : ownAfter t u s′ ≡ own t (queueOf s′ u) = ap (λ (b : Bool). cond b (own t (queueOf s′ u)) 0) b in omega arith)
     (λ (b : waitsAt t u s′ ≡ false). let z : countBy (takesFrom t u) (during t u (history s′ xs)) ≡ 0 = ap (countBy (takesFrom t u)) (during-none t u s′ xs b) in omega arith)
     (cases-bool (waitsAt t u s′)))
 
@@ -571,22 +571,22 @@ module _ (u : ℕ) (low : u < 4) where
     account-step : {x : Step} {d : Done} → Shape s x d → Later (d .state) H → Account u (d .state) H now → Account u s (Entered s x d ∷ H) now
     account-step {x} {d} z later acc = ⊎-elim (λ (p : Apart s x d). apart-account p acc) (λ (p : AtUnit s x d). at-account p later acc) (sorted-out s (h .onePlace) z)
 
-  account-run : (ds : List Deed) (s : State) (xs : List Step) → All Lawful xs → Good ds s → Account u s (history s xs) (after s xs)
-  account-run ds s [] ok g = record {
+  account-run : (s : State) (xs : List Step) → All Lawful xs → Sound s → Account u s (history s xs) (after s xs)
+  account-run s [] ok g = record {
     taken = sym (ap (λ (l : List ℕ). unitOf s u .taken ++ (l ++ [])) (none-written u s (queueOf s u)) ∙ append-nil (unitOf s u .taken));
-    given = sym (ap (λ (l : List ℕ). unitOf s u .given ++ (l ++ [])) (none-read u s (queueOf s u) (g .sound .requests u)) ∙ append-nil (unitOf s u .given));
+    given = sym (ap (λ (l : List ℕ). unitOf s u .given ++ (l ++ [])) (none-read u s (queueOf s u) (g .requests u)) ∙ append-nil (unitOf s u .given));
   }
-  account-run ds s (x ∷ xs) ok g =
+  account-run s (x ∷ xs) ok g =
       let s′ = apply x s .state in
-      let g′ = good-step ds s x (ok .0) g in
-      account-step s (g .sound) (history s′ xs) (after s′ xs) (shape s x)
-      (record { over = λ t w. during-none t u s′ xs w; grown = λ t w. grown-run t u (ds ++ apply x s .deeds) s′ xs (ok .1) g′ w; bound = λ t w. own-run t u (ds ++ apply x s .deeds) s′ xs (ok .1) g′ w })
-      (account-run (ds ++ apply x s .deeds) s′ xs (ok .1) g′)
+      let g′ = sound-step s x (ok .0) g in
+      account-step s g (history s′ xs) (after s′ xs) (shape s x)
+      (record { over = λ t w. during-none t u s′ xs w; grown = λ t w. grown-run t u s′ xs (ok .1) g′ w; bound = λ t w. own-run t u s′ xs (ok .1) g′ w })
+      (account-run s′ xs (ok .1) g′)
 
 pub units-law : OfEveryRun UnitLaws
 units-law start past h ok = subst (λ (s : State). UnitLaws s past (after s past)) (sym (h .is)) (λ u low.
     let s = begin (h .tasks) (h .timed) (h .units) in
-    let a = account-run u low [] s past ok (good-begin (h .tasks) (h .timed) (h .units) (h .some) (h .four)) in
+    let a = account-run u low s past ok (good-begin (h .tasks) (h .timed) (h .units) (h .some) (h .four) .sound) in
     let q : queueOf s u ≡ [] = getD-replicate 4 u [] [] low in
     record {
       taken = a .taken ∙ ap (λ (l : List Request). unitOf s u .taken ++ (joined (willWrite u s (history s past)) l ++ written u (history s past))) q;

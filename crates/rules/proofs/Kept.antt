@@ -37,7 +37,7 @@ places k s = inTable k (s .table) + inWaits k s
 
 pub record Kept (ds : List Deed) (s : State) (d : Done) : Type 0 where
   pub tidy : Tidy (ds ++ d .deeds) (d .state .table)
-  pub fore : Foremost (d .state) (d .state .table .running)
+  pub fore : Foremost s (s .table .running) → Foremost (d .state) (d .state .table .running)
   pub places : (k : ℕ) → places k (d .state) ≡ places k s
   pub size : length (d .state .table .tasks) ≡ length (s .table .tasks)
 
@@ -180,7 +180,7 @@ fore-changed t f s g l h = subst (Foremost (onTable (change t f) s)) (sym (chang
     go (Some r) h = λ k i. let a = h k (subst (λ (xs : List ℕ). has k xs ≡ true) (changed-ready t f (s .table)) i) in
         let x = levels-changed t f (s .table) g l k in let y = levels-changed t f (s .table) g l r in omega arith
 
-module _ (ds : List Deed) (s : State) (one-place : OnePlace s) (h : Tidy ds (s .table)) (fore : Foremost s (s .table .running)) where
+module _ (ds : List Deed) (s : State) (one-place : OnePlace s) (h : Tidy ds (s .table)) where
   pub most : (k : ℕ) → places k s ≤ 1
   most k = let e = one-place k in grind (arith, tells)
 
@@ -192,7 +192,7 @@ module _ (ds : List Deed) (s : State) (one-place : OnePlace s) (h : Tidy ds (s .
       → length (act .does (s′ .table) .tasks) ≡ length (s .table .tasks) → Kept ds s (done n act s′)
   ended n act s′ t p l =
       let c = turned (ds ++ act .tells (s′ .table)) (act .does (s′ .table)) t in
-      record { tidy = tidy-then ds (act .tells (s′ .table)) (turning .tells (act .does (s′ .table))) (c .tidy); fore = c .fore s′; places = λ k. let e = in-turn k (act .does (s′ .table)) in let q = p k in omega arith; size = ap length (tasks-turn (act .does (s′ .table))) ∙ l }
+      record { tidy = tidy-then ds (act .tells (s′ .table)) (turning .tells (act .does (s′ .table))) (c .tidy); fore = λ _. c .fore s′; places = λ k. let e = in-turn k (act .does (s′ .table)) in let q = p k in omega arith; size = ap length (tasks-turn (act .does (s′ .table))) ∙ l }
 
   -- The caller ----------------------------------------------------------------------------------------------------------------
   module _ (t : ℕ) (e : s .table .running ≡ Some t) where
@@ -278,7 +278,7 @@ module _ (ds : List Deed) (s : State) (one-place : OnePlace s) (h : Tidy ds (s .
         let c = chosen ((ds ++ linking t .tells a2) ++ linking k .tells a3) (link k a3) (linked-running k t a1) h4 in
         record {
           tidy = tidy-then ds (linking t .tells a2 ++ linking k .tells a3) (chose ∷ []) (subst (λ (l : List Deed). Tidy (l ++ chose ∷ []) (choose (link k a3))) (append-assoc ds (linking t .tells a2) (linking k .tells a3)) (c .tidy));
-          fore = c .fore s;
+          fore = λ _. c .fore s;
           places = λ j. omega (arith, in-choose j (link k a3) (linked-running k t a1), in-link j k a3, in-link j t a2, z2 j);
           size = made-size k t x a;
         }
@@ -454,7 +454,7 @@ module _ (ds : List Deed) (s : State) (one-place : OnePlace s) (h : Tidy ds (s .
           let a = change (r .task) f (s .table) in
           record {
             tidy = tidy-nil (tidy-away (r .task) f (s .table) asker-in asker-none h);
-            fore = fore-changed (r .task) f (atUnit u (v .unit) (r′ ∷ rs) s) (λ _. refl) asker-in fore;
+            fore = fore-changed (r .task) f (atUnit u (v .unit) (r′ ∷ rs) s) (λ _. refl) asker-in;
             places = λ k. let x = count-queue k (s .queues) u (r′ ∷ rs) low in let i = in-queue k in let c = in-change k (r .task) f (s .table) in omega arith;
             size = size-change (r .task) f (s .table);
           }
@@ -470,13 +470,13 @@ module _ (ds : List Deed) (s : State) (one-place : OnePlace s) (h : Tidy ds (s .
 
   -- Every step ----------------------------------------------------------------------------------------------------------------
   same : (n : ℕ) → Kept ds s (tell n s)
-  same n = record { tidy = tidy-nil h; fore = fore; places = λ k. refl; size = refl }
+  same n = record { tidy = tidy-nil h; fore = λ f. f; places = λ k. refl; size = refl }
 
   other-than : (t k : ℕ) → s .table .running ≡ Some t → eqb k t ≡ false → s .table .running ≡ Some k → ⊥
   other-than t k e n f = two-run t k (s .table) e n f
 
   pub kept-step : length (s .queues) ≡ 4 → {x : Step} {d : Done} → Shape s x d → Kept ds s d
-  kept-step four (refuses x r) = record { tidy = tidy-nil h; fore = fore; places = λ k. refl; size = refl }
+  kept-step four (refuses x r) = record { tidy = tidy-nil h; fore = λ f. f; places = λ k. refl; size = refl }
   kept-step four (tells-only x n q) = same n
   kept-step four (creates t k ks id level start message e f n) = kept-create t e k ks (newTask id (orElse (levelOf s t) level) start message) f refl
   kept-step four (kills x t q e) = kept-kill t e

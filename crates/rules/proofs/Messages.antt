@@ -18,13 +18,14 @@ use Rattle.calls.specs.declared.call.Call.the-variants.{Create, Kill, Suspend, 
 use Rattle.calls.specs.declared.refusal.Refusal.{Refusal}
 use Rattle.chain.specs.Lists.{has, rest}
 use Rattle.rules.specs.State.{CellWait, Cells, State, begin, wordOf}
-use Rattle.rules.specs.Acts.{Deed, Done, refuse}
+use Rattle.rules.specs.Acts.{Done, refuse}
 use Rattle.rules.specs.Records.{bit, withoutWaiter}
 use Rattle.rules.specs.Mail.{awaiting, delivering, elsewhere, none, posting, taking, tasksAt, waitingAt, withoutFirstAt}
 use Rattle.rules.specs.Rules.{Step, apply}
 use Rattle.rules.specs.Runs.{Entry, after, entry, history}
+use Rattle.rules.specs.Sound.{Sound}
 use Rattle.rules.specs.Laws.{AsReceiver, AsSender, Began, CellLaws, Lawful, OfEveryRun, full, handed, isGranted, sendsTo, sent, tookLater, waitsFor}
-use Rattle.rules.proofs.Sounds.{Good, good-begin, good-step}
+use Rattle.rules.proofs.Sounds.{good-begin, sound-step}
 use Rattle.rules.proofs.Shapes.{Shape, quiet, shape, refuses, tells-only, creates, kills, suspends, levels, turns, kills-other, readies-other, suspends-other, levels-other, posts, delivers, awaits, takes, delays, ticks, asks, goes-on, ends}
 
 -- Who waits at a cell ---------------------------------------------------------------------------------------------------------
@@ -274,18 +275,18 @@ cell-more c past s x d k r = record {
   alone = k .alone (r .alone);
 }
 
-cell-run : (c : ℕ) (past : List Entry) (ds : List Deed) (s : State) (xs : List Step) → All Lawful xs → Good ds s → CellRun c past s → CellRun c (past ++ history s xs) (after s xs)
-cell-run c past ds s [] ok g r = subst (λ (l : List Entry). CellRun c l s) (sym (append-nil past)) r
-cell-run c past ds s (x ∷ xs) ok g r =
+cell-run : (c : ℕ) (past : List Entry) (s : State) (xs : List Step) → All Lawful xs → Sound s → CellRun c past s → CellRun c (past ++ history s xs) (after s xs)
+cell-run c past s [] ok g r = subst (λ (l : List Entry). CellRun c l s) (sym (append-nil past)) r
+cell-run c past s (x ∷ xs) ok g r =
     subst (λ (l : List Entry). CellRun c l (after s (x ∷ xs))) (append-assoc past (entry s x ∷ []) (history (apply x s .state) xs))
-    (cell-run c (past ++ entry s x ∷ []) (ds ++ apply x s .deeds) (apply x s .state) xs (ok .1) (good-step ds s x (ok .0) g)
-    (cell-more c past s x (apply x s) (cell-step c s (g .sound .cells) (ok .0) (r .alone) (shape s x)) r))
+    (cell-run c (past ++ entry s x ∷ []) (apply x s .state) xs (ok .1) (sound-step s x (ok .0) g)
+    (cell-more c past s x (apply x s) (cell-step c s (g .cells) (ok .0) (r .alone) (shape s x)) r))
 
 pub cells-law : OfEveryRun CellLaws
 cells-law start past h ok = subst (λ (s : State). CellLaws s past (after s past)) (sym (h .is)) (λ c l.
     let s = begin (h .tasks) (h .timed) (h .units) in
     let z : wordOf (s .cells) c ≡ 0 = getD-replicate 256 c 0 0 l in
-    let r = cell-run c [] [] s past ok (good-begin (h .tasks) (h .timed) (h .units) (h .some) (h .four)) (record {
+    let r = cell-run c [] s past ok (good-begin (h .tasks) (h .timed) (h .units) (h .some) (h .four) .sound) (record {
       messages = let f : full s c ≡ 0 = ap (λ (n : ℕ). bit (not (eqb n 0)) 1) z in omega arith;
       roles = λ t i. absurd (false≢true i);
       alone = λ n. absurd (n z);

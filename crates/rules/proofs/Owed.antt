@@ -17,7 +17,7 @@ use Rattle.calls.specs.declared.call.Transfer as transfer
 use Rattle.chain.specs.Lists.{count, has, one}
 use Rattle.chain.proofs.Members.{none-count, some-count}
 use Rattle.rules.specs.State.{Request, State, Table, queueOf, recordIn}
-use Rattle.rules.specs.Acts.{Deed, Done}
+use Rattle.rules.specs.Acts.{Done}
 use Rattle.rules.specs.Records.{askers, bit}
 use Rattle.rules.specs.Transfers.{asking, ending, enqueue, goingOn, moveOf}
 use Rattle.rules.specs.Rules.{Step, apply}
@@ -29,7 +29,7 @@ use Rattle.rules.proofs.Waits.{count-enqueue}
 use Rattle.rules.proofs.Moves.{Apart, AtUnit, asks-it, moved, moves-last, moves-on, sorted-out}
 use Rattle.rules.proofs.Requests.{fitting, queue-here, queue-once, queue-there}
 use Rattle.rules.proofs.Shapes.{Shape, shape}
-use Rattle.rules.proofs.Sounds.{Good, good-after, good-step}
+use Rattle.rules.proofs.Sounds.{soundness-law, sound-step}
 
 pub count-some : (k : ℕ) (xs : List ℕ) → 1 ≤ count k xs → has k xs ≡ true
 count-some k xs h = ⊎-elim (λ (e : has k xs ≡ true). e) (λ (e : has k xs ≡ false). let z = none-count k xs e in let f : ⊥ = omega arith in absurd f) (cases-bool (has k xs))
@@ -110,11 +110,11 @@ stays-now : (t u : ℕ) (s : State) (xs : List Step) → Stays t u s xs → wait
 stays-now t u s [] h = h
 stays-now t u s (x ∷ xs) h = h .0
 
-wait-run : (t u : ℕ) (ds : List Deed) (s : State) (xs : List Step) → All Lawful xs → Good ds s → Stays t u s xs → countBy (served u) (history s xs) < dues t (queueOf s u)
-wait-run t u ds s [] ok g w = dues-some (s .table) t (queueOf s u) (g .sound .requests u) w
-wait-run t u ds s (x ∷ xs) ok g w =
-    let f = falls u t s (g .sound) (shape s x) (w .0) (stays-now t u (apply x s .state) xs (w .1)) in
-    let r = wait-run t u (ds ++ apply x s .deeds) (apply x s .state) xs (ok .1) (good-step ds s x (ok .0) g) (w .1) in
+wait-run : (t u : ℕ) (s : State) (xs : List Step) → All Lawful xs → Sound s → Stays t u s xs → countBy (served u) (history s xs) < dues t (queueOf s u)
+wait-run t u s [] ok g w = dues-some (s .table) t (queueOf s u) (g .requests u) w
+wait-run t u s (x ∷ xs) ok g w =
+    let f = falls u t s g (shape s x) (w .0) (stays-now t u (apply x s .state) xs (w .1)) in
+    let r = wait-run t u (apply x s .state) xs (ok .1) (sound-step s x (ok .0) g) (w .1) in
     let c = sumBy-cons (λ e. cond (served u e) 1 0) (entry s x) (history (apply x s .state) xs) in omega arith
 
 -- who is granted a transfer waits
@@ -152,11 +152,11 @@ all-back (x ∷ xs) ys a = all-back xs ys (a .1)
 pub deadlines-law : OfEveryRun Deadlines
 deadlines-law start past h ok early t u y later is runs gr =
     let both : All Lawful (early ++ Transfer u y ∷ later) = subst (All Lawful) is ok in
-    let g = good-after start early h (all-front early (Transfer u y ∷ later) both) in
+    let g = soundness-law start early h (all-front early (Transfer u y ∷ later) both) in
     let s = after start early in
-    let g′ = good-step _ s (Transfer u y) tt g in (
-      asks-waits s (g .sound) t u y runs gr,
+    let g′ = sound-step s (Transfer u y) tt g in (
+      asks-waits s g t u y runs gr,
       λ stays.
-          let r = wait-run t u _ (apply (Transfer u y) s .state) later (all-back early (Transfer u y ∷ later) both .1) g′ stays in
+          let r = wait-run t u (apply (Transfer u y) s .state) later (all-back early (Transfer u y ∷ later) both .1) g′ stays in
           let b = dues-owed t (queueOf (apply (Transfer u y) s .state) u) in omega arith,
     )

@@ -1,13 +1,15 @@
 -- The ready chain, deed by deed: how a place in it moves, and what stays sorted.
 use Prim.Native.Nat.{ℕ, _+_, _≤_}
-use mathlib.Core.Path.{_≡_, refl, ap, _∙_}
+use mathlib.Core.Path.{_≡_, refl, ap, subst, _∙_}
 use mathlib.Core.Bool.{Bool, true, false, cond}
-use mathlib.Core.List.{List, [], _∷_, _++_, append-assoc}
-use lib.Dec.{eqb, ltb}
+use mathlib.Core.List.{List, [], _∷_, _++_, append-assoc, map}
+use lib.Dec.{eqb, ltb, leb}
 use lib.ListN.{length}
+use mathlib.Core.Logic.{⊎-elim}
 use native.Mathlib.Omega.{arith}
-use Rattle.std.proofs.shelf.Sums.{sumBy-push}
-use Rattle.std.proofs.shelf.Tests.{eqb-true}
+use Rattle.std.specs.shelf.Lists.{countBy}
+use Rattle.std.proofs.shelf.Sums.{sumBy-cons, sumBy-push}
+use Rattle.std.proofs.shelf.Tests.{and-parts, cases-bool, eqb-true, false≢true}
 use Rattle.std.proofs.shelf.Ways.{tells}
 use Rattle.chain.specs.Lists.{count, has, join, noneAbove, rest, sorted, without}
 use Rattle.chain.proofs.Members.{count-none}
@@ -66,6 +68,43 @@ front-without u t (x ∷ xs) h e =
 -- t has just been linked
 pub placed-new : (t level : ℕ) (deeds : List Deed) (ready : List ℕ) → Placed t level (deeds ++ linked t level ready ∷ []) ready
 placed-new t level deeds ready = record { early = deeds; chain = ready; since = []; split = refl; last = refl; balance = omega arith }
+
+-- any sorted chain may have come about by links alone, in its order
+module _ (lv : ℕ → ℕ) (chain : List ℕ) where
+  abbrev pub linkOf : ℕ → Deed
+  linkOf x = linked x (lv x) chain
+
+  no-link : (t : ℕ) (xs : List ℕ) → count t xs ≡ 0 → countBy (links t) (map linkOf xs) ≡ 0
+  no-link t [] h = refl
+  no-link t (x ∷ xs) h = let ih = no-link t xs (omega arith) in let c = sumBy-cons (λ d. cond (links t d) 1 0) (linkOf x) (map linkOf xs) in grind (arith, tells)
+
+  no-link-above : (t : ℕ) (xs : List ℕ) → noneAbove lv t xs ≡ true → countBy (linksAbove (lv t)) (map linkOf xs) ≡ 0
+  no-link-above t [] h = refl
+  no-link-above t (x ∷ xs) h =
+      let p = and-parts (leb (lv t) (lv x)) (noneAbove lv t xs) h in
+      let ih = no-link-above t xs (p .1) in
+      let c = sumBy-cons (λ d. cond (linksAbove (lv t) d) 1 0) (linkOf x) (map linkOf xs) in
+      let z : bit (ltb (lv x) (lv t)) 1 ≡ 0 = (let q = p .0 in grind (arith, tells)) in omega arith
+
+  no-choosing : (xs : List ℕ) → countBy chooses (map linkOf xs) ≡ 0
+  no-choosing [] = refl
+  no-choosing (x ∷ xs) = no-choosing xs
+
+  no-take-out : (t : ℕ) (xs : List ℕ) → countBy (takesOutAhead t) (map linkOf xs) ≡ 0
+  no-take-out t [] = refl
+  no-take-out t (x ∷ xs) = no-take-out t xs
+
+  pub placed-so : (t : ℕ) (xs : List ℕ) (early : List Deed) → sorted lv xs ≡ true → count t xs ≤ 1 → has t xs ≡ true → Placed t (lv t) (early ++ map linkOf xs) chain
+  placed-so t [] early s o h = absurd (false≢true h)
+  placed-so t (x ∷ xs) early s o h = ⊎-elim
+      (λ (e : eqb x t ≡ true). let q = eqb-true x t e in
+      let p = and-parts (noneAbove lv x xs) (sorted lv xs) s in
+      let n : noneAbove lv t xs ≡ true = subst (λ (y : ℕ). noneAbove lv y xs ≡ true) q (p .0) in
+      let a = no-link t xs (grind (arith, tells)) in let b = no-link-above t xs n in let c = no-choosing xs in let d = no-take-out t xs in
+      record { early = early; chain = chain; since = map linkOf xs; split = ap (λ (y : ℕ). early ++ linkOf y ∷ map linkOf xs) q; last = a; balance = omega arith })
+      (λ (e : eqb x t ≡ false). subst (λ (l : List Deed). Placed t (lv t) l chain) (append-assoc early (linkOf x ∷ []) (map linkOf xs))
+      (placed-so t xs (early ++ linkOf x ∷ []) (and-parts (noneAbove lv x xs) (sorted lv xs) s .1) (omega arith) (grind (arith, tells))))
+      (cases-bool (eqb x t))
 
 -- one deed more, which was no link of t
 pub placed-more : (t level : ℕ) (deeds : List Deed) (ready now : List ℕ) (d : Deed) → links t d ≡ false

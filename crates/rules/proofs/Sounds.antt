@@ -2,7 +2,7 @@
 use Prim.Native.Nat.{ℕ, zero, suc, _+_, _<_, _≤_}
 use mathlib.Core.Path.{_≡_, refl, sym, ap, subst, _∙_}
 use mathlib.Core.Bool.{Bool, true, false, cond, _&&_}
-use mathlib.Core.List.{List, [], _∷_, _++_, append-assoc, append-nil}
+use mathlib.Core.List.{List, [], _∷_, _++_, map, append-assoc, append-nil}
 use mathlib.Core.Logic.{_≢_, ⊎-elim}
 use lib.Dec.{eqb, ltb, leb}
 use lib.ListN.{length, getD, set, take, length-set, replicate}
@@ -29,9 +29,10 @@ use Rattle.rules.specs.Runs.{after, deedsOf, history}
 use Rattle.rules.specs.Sound.{Marks, Sound, UniqueIds, allFit, fits, inTable}
 use Rattle.rules.specs.Laws.{Foremost, Lawful, OfEveryRun, ReadyPlaces, RunningRanksFirst, Soundness, Started}
 use Rattle.rules.proofs.Counts.{one-same, tasks-release, tasks-turn}
-use Rattle.rules.proofs.Tidy.{Tidy, record-same}
+use Rattle.rules.proofs.Tidy.{Tidy, ready-once, record-same}
+use Rattle.rules.proofs.Places.{linkOf, placed-so}
 use Rattle.rules.proofs.Waits.{absent}
-use Rattle.rules.proofs.Kept.{kept-step}
+use Rattle.rules.proofs.Kept.{Kept, kept-step}
 use Rattle.rules.proofs.Fields.{Light, same-change, same-stop, same-tasks, same-turn, touched, untouched}
 use Rattle.rules.proofs.Moves.{hadFrom, moved}
 use Rattle.rules.proofs.Requests.{asked-load, end-load, fitting, on-load, requests-step}
@@ -111,33 +112,33 @@ timely-step (goes-on u r rs l q a) ok h = h
 timely-step (ends u r rs o l q a) ok h = h
 
 -- Sizes -----------------------------------------------------------------------------------------------------------------------
-record Sizes (s : State) : Type 0 where
-  cells : length (s .cells .words) ≡ 256
-  queues : length (s .queues) ≡ 4
-  units : length (s .units) ≡ 4
+record Sizes (words : List ℕ) (queues : List (List Request)) (units : List Medium) : Type 0 where
+  cells : length words ≡ 256
+  requests : length queues ≡ 4
+  four : length units ≡ 4
 
-sizes-step : {s : State} {x : Step} {d : Done} → Shape s x d → Sizes s → Sizes (d .state)
+sizes-step : {s : State} {x : Step} {d : Done} → Shape s x d → Sizes (s .cells .words) (s .queues) (s .units) → Sizes (d .state .cells .words) (d .state .queues) (d .state .units)
 sizes-step (refuses x r) h = h
 sizes-step (tells-only x n q) h = h
-sizes-step (creates t k ks id level start message e f n) h = record { cells = h .cells; queues = h .queues; units = h .units }
-sizes-step (kills x t q e) h = record { cells = h .cells; queues = h .queues; units = h .units }
-sizes-step (suspends x t q e) h = record { cells = h .cells; queues = h .queues; units = h .units }
-sizes-step (levels x t level q e) h = record { cells = h .cells; queues = h .queues; units = h .units }
-sizes-step (turns x t q e) h = record { cells = h .cells; queues = h .queues; units = h .units }
-sizes-step (kills-other id t k e n f a) h = record { cells = h .cells; queues = h .queues; units = h .units }
-sizes-step (readies-other id t k e n f) h = record { cells = h .cells; queues = h .queues; units = h .units }
-sizes-step (suspends-other id t k e n f) h = record { cells = h .cells; queues = h .queues; units = h .units }
-sizes-step (levels-other id t k level e n f) h = record { cells = h .cells; queues = h .queues; units = h .units }
-sizes-step {s} (posts t c m true e a b n) h = record { cells = length-set (s .cells .words) c m ∙ h .cells; queues = h .queues; units = h .units }
-sizes-step {s} (posts t c m false e a b n) h = record { cells = length-set (s .cells .words) c m ∙ h .cells; queues = h .queues; units = h .units }
-sizes-step (delivers t c m stay e a b n) h = record { cells = h .cells; queues = h .queues; units = h .units }
-sizes-step (awaits t c e a) h = record { cells = h .cells; queues = h .queues; units = h .units }
-sizes-step {s} (takes t c e a) h = record { cells = length-set (s .cells .words) c 0 ∙ h .cells; queues = h .queues; units = h .units }
-sizes-step (delays t n e a) h = record { cells = h .cells; queues = h .queues; units = h .units }
-sizes-step (ticks a) h = record { cells = h .cells; queues = h .queues; units = h .units }
-sizes-step {s} (asks t u y k bytes size e l a) h = record { cells = h .cells; queues = length-set (s .queues) u _ ∙ h .queues; units = h .units }
-sizes-step {s} (goes-on u r rs l q a) h = record { cells = h .cells; queues = length-set (s .queues) u _ ∙ h .queues; units = length-set (s .units) u _ ∙ h .units }
-sizes-step {s} (ends u r rs o l q a) h = record { cells = h .cells; queues = length-set (s .queues) u _ ∙ h .queues; units = length-set (s .units) u _ ∙ h .units }
+sizes-step (creates t k ks id level start message e f n) h = h
+sizes-step (kills x t q e) h = h
+sizes-step (suspends x t q e) h = h
+sizes-step (levels x t level q e) h = h
+sizes-step (turns x t q e) h = h
+sizes-step (kills-other id t k e n f a) h = h
+sizes-step (readies-other id t k e n f) h = h
+sizes-step (suspends-other id t k e n f) h = h
+sizes-step (levels-other id t k level e n f) h = h
+sizes-step {s} (posts t c m true e a b n) h = record { cells = length-set (s .cells .words) c m ∙ h .cells; requests = h .requests; four = h .four }
+sizes-step {s} (posts t c m false e a b n) h = record { cells = length-set (s .cells .words) c m ∙ h .cells; requests = h .requests; four = h .four }
+sizes-step (delivers t c m stay e a b n) h = h
+sizes-step (awaits t c e a) h = h
+sizes-step {s} (takes t c e a) h = record { cells = length-set (s .cells .words) c 0 ∙ h .cells; requests = h .requests; four = h .four }
+sizes-step (delays t n e a) h = h
+sizes-step (ticks a) h = h
+sizes-step {s} (asks t u y k bytes size e l a) h = record { cells = h .cells; requests = length-set (s .queues) u _ ∙ h .requests; four = h .four }
+sizes-step {s} (goes-on u r rs l q a) h = record { cells = h .cells; requests = length-set (s .queues) u _ ∙ h .requests; four = length-set (s .units) u _ ∙ h .four }
+sizes-step {s} (ends u r rs o l q a) h = record { cells = h .cells; requests = length-set (s .queues) u _ ∙ h .requests; four = length-set (s .units) u _ ∙ h .four }
 
 -- Ids -------------------------------------------------------------------------------------------------------------------------
 id-light : Light (λ x. x .id)
@@ -288,40 +289,64 @@ module _ {s : State} (h : Sound s) where
 
 -- Runs ------------------------------------------------------------------------------------------------------------------------
 
+-- what a step makes of a sound state, in a table that is tidy after some deeds
+sound-after : (ds : List Deed) (s : State) (x : Step) → Lawful x → Sound s → Kept ds s (apply x s) → Sound (apply x s .state)
+sound-after ds s x ok h k =
+    let w = shape s x in
+    let c = timely-step w ok (record { sorts = h .clockSorted; dues = h .dues; bound = h .clock }) in
+    let z = sizes-step w (record { cells = h .cells; requests = h .queues; four = h .units }) in
+    record {
+      onePlace = λ j. k .places j ∙ h .onePlace j ∙ ap (λ (n : ℕ). cond (ltb j n) 1 0) (sym (k .size));
+      marks = k .tidy .marks;
+      freeAreBlank = k .tidy .blanks;
+      uniqueIds = ids-step h w;
+      readySorted = k .tidy .sorted;
+      clockSorted = c .sorts;
+      dues = c .dues;
+      clock = c .bound;
+      fewBytes = few-step h w;
+      requests = requests-step s h w;
+      cells = z .cells;
+      queues = z .requests;
+      units = z .four;
+    }
+
+-- a sound state has a tidy table: its ready chain may have come about by links alone
+tidy-so : (s : State) → Sound s → Tidy (map (linkOf (levelOf s) (s .table .ready)) (s .table .ready)) (s .table)
+tidy-so s h = record {
+  once = few;
+  blanks = h .freeAreBlank;
+  marks = h .marks;
+  sorted = h .readySorted;
+  placed = λ t i. placed-so (levelOf s) (s .table .ready) t (s .table .ready) [] (h .readySorted) (ready-once t (s .table) (few t)) i;
+}
+  where
+    few : (k : ℕ) → inTable k (s .table) ≤ 1
+    few k = let o = h .onePlace k in grind (arith, tells)
+
+kept-so : (s : State) (x : Step) (h : Sound s) → Kept (map (linkOf (levelOf s) (s .table .ready)) (s .table .ready)) s (apply x s)
+kept-so s x h = kept-step (map (linkOf (levelOf s) (s .table .ready)) (s .table .ready)) s (h .onePlace) (tidy-so s h) (h .queues) (shape s x)
+
+-- each lawful step from any sound state comes to a sound one
+pub sound-step : (s : State) (x : Step) → Lawful x → Sound s → Sound (apply x s .state)
+sound-step s x ok h = sound-after (map (linkOf (levelOf s) (s .table .ready)) (s .table .ready)) s x ok h (kept-so s x h)
+
+-- and the running task ranks first again
+pub foremost-step : (s : State) (x : Step) → Sound s → Foremost s (s .table .running) → Foremost (apply x s .state) (apply x s .state .table .running)
+foremost-step s x h f = kept-so s x h .fore f
+
 -- a state that a run has come to with the deeds ds
 pub record Good (ds : List Deed) (s : State) : Type 0 where
   pub sound : Sound s
   pub tidy : Tidy ds (s .table)
   pub fore : Foremost s (s .table .running)
 
-pub good-step : (ds : List Deed) (s : State) (x : Step) → Lawful x → Good ds s → Good (ds ++ apply x s .deeds) (apply x s .state)
+good-step : (ds : List Deed) (s : State) (x : Step) → Lawful x → Good ds s → Good (ds ++ apply x s .deeds) (apply x s .state)
 good-step ds s x ok g =
-    let h = g .sound in
-    let w = shape s x in
-    let k = kept-step ds s (h .onePlace) (g .tidy) (g .fore) (h .queues) w in
-    let c = timely-step w ok (record { sorts = h .clockSorted; dues = h .dues; bound = h .clock }) in
-    let z = sizes-step w (record { cells = h .cells; queues = h .queues; units = h .units }) in
-    record {
-      sound = record {
-        onePlace = λ j. k .places j ∙ h .onePlace j ∙ ap (λ (n : ℕ). cond (ltb j n) 1 0) (sym (k .size));
-        marks = k .tidy .marks;
-        freeAreBlank = k .tidy .blanks;
-        uniqueIds = ids-step h w;
-        readySorted = k .tidy .sorted;
-        clockSorted = c .sorts;
-        dues = c .dues;
-        clock = c .bound;
-        fewBytes = few-step h w;
-        requests = requests-step s h w;
-        cells = z .cells;
-        queues = z .queues;
-        units = z .units;
-      };
-      tidy = k .tidy;
-      fore = k .fore;
-    }
+    let k = kept-step ds s (g .sound .onePlace) (g .tidy) (g .sound .queues) (shape s x) in
+    record { sound = sound-after ds s x ok (g .sound) k; tidy = k .tidy; fore = k .fore (g .fore) }
 
-pub good-run : (ds : List Deed) (s : State) (xs : List Step) → All Lawful xs → Good ds s → Good (ds ++ deedsOf (history s xs)) (after s xs)
+good-run : (ds : List Deed) (s : State) (xs : List Step) → All Lawful xs → Good ds s → Good (ds ++ deedsOf (history s xs)) (after s xs)
 good-run ds s [] ok g = subst (λ (l : List Deed). Good l s) (sym (append-nil ds)) g
 good-run ds s (x ∷ xs) ok g =
     subst (λ (l : List Deed). Good l (after s (x ∷ xs))) (append-assoc ds (apply x s .deeds) (deedsOf (history (apply x s .state) xs)))

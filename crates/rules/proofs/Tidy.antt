@@ -73,7 +73,7 @@ unfolding stop
 stop-mark t a e = e
 
 -- Chains ----------------------------------------------------------------------------------------------------------------------
-ready-once : (k : ℕ) (a : Table) → inTable k a ≤ 1 → count k (a .ready) ≤ 1
+pub ready-once : (k : ℕ) (a : Table) → inTable k a ≤ 1 → count k (a .ready) ≤ 1
 unfolding inTable
 ready-once k a h = omega arith
 

@@ -242,8 +242,8 @@ Deadlines start past now =
     → past ≡ early ++ Transfer u y ∷ later
     → after start early .table .running ≡ Some t
     → isGranted (apply (Transfer u y) (after start early) .answer) ≡ true
-    → let asked = apply (Transfer u y) (after start early) .state in
-    (waitsAt t u asked ≡ true) × (Stays t u asked later → countBy (served u) (history asked later) < owed (queueOf asked u))
+    → let then = apply (Transfer u y) (after start early) .state in
+    (waitsAt t u then ≡ true) × (Stays t u then later → countBy (served u) (history then later) < owed (queueOf then u))
 
 -- the steps that found t waiting at the unit u, up to the end of its wait
 abbrev pub during : ℕ → ℕ → List Entry → List Entry

@@ -26,6 +26,7 @@ abbrev pub withoutFirstAt : ℕ → List CellWait → List CellWait
 withoutFirstAt c [] = []
 withoutFirstAt c (w ∷ ws) = cond (eqb (w .cell) c) ws (w ∷ withoutFirstAt c ws)
 
+-- whether there is none in a list
 abbrev pub none : {A : Type 0} → List A → Bool
 none [] = true
 none (x ∷ xs) = false

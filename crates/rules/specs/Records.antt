@@ -80,10 +80,11 @@ suspending t s = done 0 (plain (λ a. suspend t (change t (withMark true) (stop 
 abbrev pub levelling : ℕ → ℕ → State → Done
 levelling t level s = done 0 (plain (change t (withLevel (orElse 1 level)))) s
 
--- Status: 1 at a unit, 2 with a mark, 4 at a cell, 8 for a due tick, summed up
+-- a number if something holds, else 0
 abbrev pub bit : Bool → ℕ → ℕ
 bit b n = cond b n 0
 
+-- Status: 1 at a unit, 2 with a mark, 4 at a cell, 8 for a due tick, summed up
 abbrev pub statusOf : State → ℕ → ℕ
 statusOf s k = bit (has k (allAskers (s .queues))) 1 + bit (taskOf s k .mark) 2 + bit (has k (waiters (s .cells .waits))) 4 + bit (has k (sleepers (s .sleeping))) 8
 

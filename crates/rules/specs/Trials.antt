@@ -21,9 +21,9 @@ use Rattle.rules.specs.Runs.{after, answers, runners}
 abbrev pub threeMade : List Step
 threeMade = Create 1 8 0 0 ∷ Create 2 8 0 0 ∷ Create 3 8 0 0 ∷ []
 
--- record 0 steps back to level 9, and two tasks of level 8 wait at cell 9; then record 0 sends 5 there
+-- record 0 makes two tasks of level 8 and delays; both wait at cell 9; after a tick record 0, which ranks above them, sends 5 there
 abbrev pub twoReceive : List Step
-twoReceive = SetLevel 9 ∷ Create 1 8 0 0 ∷ Wait 9 ∷ Create 2 8 0 0 ∷ Wait 9 ∷ Send 9 5 false ∷ []
+twoReceive = Create 1 8 0 0 ∷ Create 2 8 0 0 ∷ Delay 1 ∷ Wait 9 ∷ Wait 9 ∷ Tick ∷ Send 9 5 false ∷ []
 
 -- a task waits at cell 9 and gets a mark; then record 0 sends 5 there
 abbrev pub markedReceives : List Step
@@ -38,14 +38,14 @@ pub record Trials (us : List Medium) : Type 0 where
   pub roundRobin : runners (begin 4 true us) (threeMade ++ SetLevel 8 ∷ Tick ∷ Tick ∷ Tick ∷ Tick ∷ []) ≡ Some 0 ∷ Some 0 ∷ Some 0 ∷ Some 1 ∷ Some 2 ∷ Some 3 ∷ Some 0 ∷ Some 1 ∷ []
   -- the ids 2 and then 1, at records 2 and 1, are killed: the next create gets record 1
   pub lastFreedFirst : answers (begin 4 true us) (threeMade ++ ById 2 by.Kill ∷ ById 1 by.Kill ∷ Create 7 8 0 0 ∷ []) ≡ Ok 1 ∷ Ok 2 ∷ Ok 3 ∷ Ok 0 ∷ Ok 0 ∷ Ok 1 ∷ []
-  -- two receivers at cell 9 and a send of 5: both have 5 and wait no more, one runs and the other is ready, and the cell is zero
+  -- two receivers at cell 9 and a send of 5: both have 5, wait no more and are ready, and the cell is zero
   pub bothReceive :
       (taskOf (after (begin 3 true us) twoReceive) 1 .word ≡ 5)
       × (taskOf (after (begin 3 true us) twoReceive) 2 .word ≡ 5)
       × (wordOf (after (begin 3 true us) twoReceive .cells) 9 ≡ 0)
       × (waitingAt (after (begin 3 true us) twoReceive) 9 ≡ [])
-      × (after (begin 3 true us) twoReceive .table .running ≡ Some 1)
-      × (after (begin 3 true us) twoReceive .table .ready ≡ 2 ∷ 0 ∷ [])
+      × (after (begin 3 true us) twoReceive .table .running ≡ Some 0)
+      × (after (begin 3 true us) twoReceive .table .ready ≡ 1 ∷ 2 ∷ [])
   -- a send of 0 to a full cell gives 6, and to an empty one 7
   pub fullBeforeZero : answers (begin 1 true us) (Send 9 5 false ∷ Send 9 0 false ∷ Send 8 0 false ∷ []) ≡ Ok 0 ∷ Err CellFull ∷ Err NoMessage ∷ []
   -- a delay of 1 ends with the first tick
