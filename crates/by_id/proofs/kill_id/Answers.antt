@@ -13,7 +13,7 @@ returns-then-task-caller c =
     let same = λ (us : List Medium). sym (own_kill (state us c.args.tables.now) c.in-Some.caller c.in-Some-find.task c.args.id c.in-Some.ensures c.in-Some-find.ensures c.if-task-caller.true) in
     record { state = λ us. c.kill.ensures.state us ∙ ap (λ (d : Done). d.state) (same us); answer = λ us. c.kill.ensures.answer us ∙ ap (λ (d : Done). d.answer) (same us); room = c.kill.ensures.room }
 
-pub kill-other-requires : goal.kill-other-requires
-kill-other-requires c =
+pub kill_other-requires : goal.kill_other-requires
+kill_other-requires c =
     let f = found c.args.id c.in-Some-find.task (table c.args.tables.now.tasks) (sym c.in-Some-find.ensures) in
     record { within = f.inside; live = f.live; other = λ e. c.if-task-caller.false (let r = c.in-Some.ensures in cc) }

@@ -4,5 +4,5 @@ use Rattle.tasks.specs.View.{table}
 use Rattle.rules.proofs.Waits.{found}
 use Rattle.by_id.proofs.ready_id.Goals as goal
 
-pub ready-other-requires : goal.ready-other-requires
-ready-other-requires c = (found c.args.id c.in-Some-find.task (table c.args.tables.now.tasks) (sym c.in-Some-find.ensures)).inside
+pub ready_other-requires : goal.ready_other-requires
+ready_other-requires c = (found c.args.id c.in-Some-find.task (table c.args.tables.now.tasks) (sym c.in-Some-find.ensures)).inside

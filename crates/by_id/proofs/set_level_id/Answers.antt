@@ -11,7 +11,7 @@ use Rattle.by_id.proofs.set_level_id.Goals as goal
 pub returns-then-task-caller : goal.returns-then-task-caller
 returns-then-task-caller c =
     let same = λ (us : List Medium). sym (own-level (state us c.args.tables.now) c.in-Some.caller c.in-Some-find.task c.args.id c.in-Some.ensures c.in-Some-find.ensures c.args.level c.if-task-caller.true) in
-    record { state = λ us. c.set-level.ensures.state us ∙ ap (λ (d : Done). d.state) (same us); answer = λ us. c.set-level.ensures.answer us ∙ ap (λ (d : Done). d.answer) (same us); room = c.set-level.ensures.room }
+    record { state = λ us. c.set_level.ensures.state us ∙ ap (λ (d : Done). d.state) (same us); answer = λ us. c.set_level.ensures.answer us ∙ ap (λ (d : Done). d.answer) (same us); room = c.set_level.ensures.room }
 
-pub level-other-requires : goal.level-other-requires
-level-other-requires c = (found c.args.id c.in-Some-find.task (table c.args.tables.now.tasks) (sym c.in-Some-find.ensures)).inside
+pub level_other-requires : goal.level_other-requires
+level_other-requires c = (found c.args.id c.in-Some-find.task (table c.args.tables.now.tasks) (sym c.in-Some-find.ensures)).inside

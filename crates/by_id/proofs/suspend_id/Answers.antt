@@ -13,5 +13,5 @@ returns-then-task-caller c =
     let same = λ (us : List Medium). sym (own-suspend (state us c.args.tables.now) c.in-Some.caller c.in-Some-find.task c.args.id c.in-Some.ensures c.in-Some-find.ensures c.if-task-caller.true) in
     record { state = λ us. c.suspend.ensures.state us ∙ ap (λ (d : Done). d.state) (same us); answer = λ us. c.suspend.ensures.answer us ∙ ap (λ (d : Done). d.answer) (same us); room = c.suspend.ensures.room }
 
-pub suspend-other-requires : goal.suspend-other-requires
-suspend-other-requires c = (found c.args.id c.in-Some-find.task (table c.args.tables.now.tasks) (sym c.in-Some-find.ensures)).inside
+pub suspend_other-requires : goal.suspend_other-requires
+suspend_other-requires c = (found c.args.id c.in-Some-find.task (table c.args.tables.now.tasks) (sym c.in-Some-find.ensures)).inside

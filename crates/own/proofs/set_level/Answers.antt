@@ -2,5 +2,5 @@
 use Rattle.tables.proofs.Stands.{caller}
 use Rattle.own.proofs.set_level.Goals as goal
 
-pub set-level-requires : goal.set-level-requires
-set-level-requires c = (caller c.args.tables.now c.requires c.in-Some.caller c.in-Some.ensures).within
+pub set_level-requires : goal.set_level-requires
+set_level-requires c = (caller c.args.tables.now c.requires c.in-Some.caller c.in-Some.ensures).within

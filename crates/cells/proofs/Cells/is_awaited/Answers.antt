@@ -9,4 +9,4 @@ use Rattle.cells.proofs.Cells.is_awaited.Goals as goal
 pub returns : goal.returns
 returns c =
     let ws = lined c.args.self.now in
-    c.is-some.ensures ∙ awaited (tasks_at c.args.cell (as_waits ws)) c.first-with.result (c.first-with.ensures (record { cell = 0 }) ∙ ap first (tasks-at c.args.cell ws))
+    c.is_some.ensures ∙ awaited (tasks_at c.args.cell (as_waits ws)) c.first_with.result (c.first_with.ensures (record { cell = 0 }) ∙ ap first (tasks-at c.args.cell ws))

@@ -5,4 +5,4 @@ use Rattle.cells.proofs.Waits.{waiters_are}
 use Rattle.cells.proofs.Cells.is_waiting.Goals as goal
 
 pub returns : goal.returns
-returns c = c.is-on.ensures ∙ sym (ap (has c.args.t) (waiters_are c.args.self.now))
+returns c = c.is_on.ensures ∙ sym (ap (has c.args.t) (waiters_are c.args.self.now))

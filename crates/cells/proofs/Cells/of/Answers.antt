@@ -7,8 +7,8 @@ use Rattle.cells.proofs.Cells.of.Goals as goal
 
 pub returns : goal.returns
 returns c =
-    let ws = list (record { cell = 0 }) c.in-ok-line.line in
+    let ws = list (record { cell = 0 }) c.in_ok-line.line in
     record {
-      cells = ap (λ (vs : List rules.CellWait). record { words = replicate 256 0; waits = vs }) (waits-none ws ws (c.in-ok-line.ensures.list (record { cell = 0 })));
-      room = c.in-ok-line.ensures.room;
+      cells = ap (λ (vs : List rules.CellWait). record { words = replicate 256 0; waits = vs }) (waits-none ws ws (c.in_ok-line.ensures.list (record { cell = 0 })));
+      room = c.in_ok-line.ensures.room;
     }

@@ -10,7 +10,7 @@ use Rattle.cells.proofs.Cells.take_first_at.Goals as goal
 pub returns : goal.returns
 returns c =
     let x = c.args.self.now in
-    let u = c.take-first-with in
+    let u = c.take_first_with in
     let ws = lined x in
     let vs = list (record { cell = 0 }) u.new.self in
     let f = u.ensures.first (record { cell = 0 }) ∙ ap first (tasks-at c.args.cell ws) in

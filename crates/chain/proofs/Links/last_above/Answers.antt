@@ -5,32 +5,32 @@ use Rattle.chain.specs.Chains.{nexts, records, last_before}
 use Rattle.chain.proofs.Leads.{first-within, next_ends, next_less, last-go, last-stop, at-end}
 use Rattle.chain.proofs.Links.last_above.Goals as goal
 
-pub ranks-above-requires : goal.ranks-above-requires
-ranks-above-requires g c = (c.requires.within, first-within (nexts c.args.self.now) c.loop-at.at c.in-Some.k c.in-Some.is c.loop-at.invariant.0)
+pub ranks_above-requires : goal.ranks_above-requires
+ranks_above-requires g c = (c.requires.within, first-within (nexts c.args.self.now) c.loop-at.at c.in-Some.k c.in-Some.is c.loop-at.invariant.0)
 
-pub next-of-at-requires : goal.next-of-at-requires
-next-of-at-requires g c = first-within (nexts c.args.self.now) c.loop-at.at c.in-Some.k c.in-Some.is c.loop-at.invariant.0
+pub next_of-at-requires : goal.next_of-at-requires
+next_of-at-requires g c = first-within (nexts c.args.self.now) c.loop-at.at c.in-Some.k c.in-Some.is c.loop-at.invariant.0
 
 pub loop-at-smaller : goal.loop-at-smaller
-loop-at-smaller g c = next_less (nexts c.args.self.now) c.loop-at.at c.in-Some.k c.in-Some.is c.loop-at.invariant.0 c.next-of-at.result c.next-of-at.ensures
+loop-at-smaller g c = next_less (nexts c.args.self.now) c.loop-at.at c.in-Some.k c.in-Some.is c.loop-at.invariant.0 c.next_of-at.result c.next_of-at.ensures
 
 pub loop-at-preserved : goal.loop-at-preserved
 loop-at-preserved g c =
     let by = rank_in g.R.Ranked.rank (records c.args.self.now) in (
-      next_ends (nexts c.args.self.now) c.loop-at.at c.in-Some.k c.in-Some.is c.loop-at.invariant.0 c.next-of-at.result c.next-of-at.ensures,
-      last-go (nexts c.args.self.now) c.loop-at.at c.in-Some.k c.in-Some.is c.loop-at.invariant.0 c.next-of-at.result c.next-of-at.ensures
-          (λ k. ltb (by c.args.i) (by k)) c.loop-at.last (sym c.ranks-above.ensures ∙ c.if-ranks-above.false)
+      next_ends (nexts c.args.self.now) c.loop-at.at c.in-Some.k c.in-Some.is c.loop-at.invariant.0 c.next_of-at.result c.next_of-at.ensures,
+      last-go (nexts c.args.self.now) c.loop-at.at c.in-Some.k c.in-Some.is c.loop-at.invariant.0 c.next_of-at.result c.next_of-at.ensures
+          (λ k. ltb (by c.args.i) (by k)) c.loop-at.last (sym c.ranks_above.ensures ∙ c.if-ranks_above.false)
           ∙ c.loop-at.invariant.1,
     )
 
-pub returns-then-ranks-above : goal.returns-then-ranks-above
-returns-then-ranks-above g c =
+pub returns-then-ranks_above : goal.returns-then-ranks_above
+returns-then-ranks_above g c =
     let by = rank_in g.R.Ranked.rank (records c.args.self.now) in
     sym (last-stop (nexts c.args.self.now) c.loop-at.at c.in-Some.k c.in-Some.is c.loop-at.invariant.0
-    (λ k. ltb (by c.args.i) (by k)) c.loop-at.last (sym c.ranks-above.ensures ∙ c.if-ranks-above.true))
+    (λ k. ltb (by c.args.i) (by k)) c.loop-at.last (sym c.ranks_above.ensures ∙ c.if-ranks_above.true))
     ∙ c.loop-at.invariant.1
 
-pub returns-in-default : goal.returns-in-default
-returns-in-default g c =
+pub returns-in_default : goal.returns-in_default
+returns-in_default g c =
     let by = rank_in g.R.Ranked.rank (records c.args.self.now) in
-    sym (ap (last_before (λ k. ltb (by c.args.i) (by k)) c.loop-at.last) (at-end (nexts c.args.self.now) c.loop-at.at c.in-default.is)) ∙ c.loop-at.invariant.1
+    sym (ap (last_before (λ k. ltb (by c.args.i) (by k)) c.loop-at.last) (at-end (nexts c.args.self.now) c.loop-at.at c.in_default.is)) ∙ c.loop-at.invariant.1

@@ -12,8 +12,8 @@ loop-i-init g c =
     let e = c.len-i.ensures in
     (subst (λ i. Relinked ns ns None (rising i (n - i)) (rising i (n - i))) (sym e) (rising_none ns n), refl, omega arith, omega arith)
 
-pub put-first-requires : goal.put-first-requires
-put-first-requires g c =
+pub put_first-requires : goal.put_first-requires
+put_first-requires g c =
     let l = c.loop-i in
     let u = l.invariant.0 in
     let n = length (nexts c.args.self.now) in
@@ -26,9 +26,9 @@ put-first-requires g c =
 pub loop-i-preserved : goal.loop-i-preserved
 loop-i-preserved g c =
     let l = c.loop-i in
-    let v = c.put-first.ensures in
+    let v = c.put_first.ensures in
     let ns = nexts c.args.self.now in (
-      rising-put ns (nexts l.self) (nexts c.put-first.new.self) l.head c.put-first.new.head (length ns) (l.i - 1) l.i (omega arith) l.invariant.2 l.invariant.0 v.links,
+      rising-put ns (nexts l.self) (nexts c.put_first.new.self) l.head c.put_first.new.head (length ns) (l.i - 1) l.i (omega arith) l.invariant.2 l.invariant.0 v.links,
       v.records ∙ l.invariant.1,
       (let b = l.invariant.2 in omega arith),
       (let b = l.invariant.2 in omega arith),

@@ -6,8 +6,8 @@ use Rattle.chain.proofs.Orders.{linked-by}
 use Rattle.chain.proofs.Writes.{joined-first, joined-behind, behind-within}
 use Rattle.chain.proofs.Links.link_by_rank.Goals as goal
 
-pub link-behind-requires : goal.link-behind-requires
-link-behind-requires g c =
+pub link_behind-requires : goal.link_behind-requires
+link_behind-requires g c =
     let behind = behind-within (nexts c.args.self.now) c.args.head.now c.args.i c.requires.ends c.requires.within c.requires.fresh
     (rank_in g.R.Ranked.rank (records c.args.self.now)) c.in-Some.p c.in-Some.ensures in
     let within = c.requires.within in
@@ -17,12 +17,12 @@ pub returns-in-None : goal.returns-in-None
 returns-in-None g c =
     let by = rank_in g.R.Ranked.rank (records c.args.self.now) in
     let u = joined-first (nexts c.args.self.now) c.args.head.now c.args.i c.requires.ends c.requires.within c.requires.fresh by
-    (nexts c.put-first.new.self) c.put-first.new.head c.in-None.ensures c.put-first.ensures.links in
-    record { links = u; records = c.put-first.ensures.records; laws = linked-by by c.args.i _ _ c.requires.fresh u.list }
+    (nexts c.put_first.new.self) c.put_first.new.head c.in-None.ensures c.put_first.ensures.links in
+    record { links = u; records = c.put_first.ensures.records; laws = linked-by by c.args.i _ _ c.requires.fresh u.list }
 
 pub returns-in-Some : goal.returns-in-Some
 returns-in-Some g c =
     let by = rank_in g.R.Ranked.rank (records c.args.self.now) in
     let u = joined-behind (nexts c.args.self.now) c.args.head.now c.args.i c.requires.ends c.requires.within c.requires.fresh by
-    c.in-Some.p c.in-Some.ensures (nexts c.link-behind.new.self) c.link-behind.ensures.next in
-    record { links = u; records = c.link-behind.ensures.records; laws = linked-by by c.args.i _ _ c.requires.fresh u.list }
+    c.in-Some.p c.in-Some.ensures (nexts c.link_behind.new.self) c.link_behind.ensures.next in
+    record { links = u; records = c.link_behind.ensures.records; laws = linked-by by c.args.i _ _ c.requires.fresh u.list }

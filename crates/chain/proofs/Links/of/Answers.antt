@@ -7,7 +7,7 @@ use Rattle.chain.proofs.Links.of.Goals as goal
 
 pub loop-i-preserved : goal.loop-i-preserved
 loop-i-preserved g c =
-    let p = c.push-reserved.ensures in
+    let p = c.push_reserved.ensures in
     let x : Link g.row.R.Denot = record { «record» = c.args.blank; next = None } in (
       p.items ∙ ap (λ l. l ++ x ∷ []) c.loop-i.invariant.0 ∙ replicate_more c.loop-i.i x,
       p.len ∙ ap (λ n. n + 1) c.loop-i.invariant.1,

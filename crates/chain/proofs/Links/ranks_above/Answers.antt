@@ -9,9 +9,9 @@ pub returns : goal.returns
 returns g c =
     let rank = g.R.Ranked.rank in
     let t = c.args.self.now in
-    let a = c.record-at.result.now in
-    let b = c.record-at-2.result.now in
-    let first = rank_is t c.args.i c.requires.0 rank a c.record-at.ensures in
-    let second = rank_is t c.args.k c.requires.1 rank b c.record-at-2.ensures in
-    not_behind _ _ c.goes-behind.result
-    (c.goes-behind.ensures ∙ g.met.R.Ranked.ranks b a ∙ ap (λ n. leb n (rank a)) second ∙ ap (leb (rank_in rank (records t) c.args.k)) first)
+    let a = c.record_at.result.now in
+    let b = c.record_at-2.result.now in
+    let first = rank_is t c.args.i c.requires.0 rank a c.record_at.ensures in
+    let second = rank_is t c.args.k c.requires.1 rank b c.record_at-2.ensures in
+    not_behind _ _ c.goes_behind.result
+    (c.goes_behind.ensures ∙ g.met.R.Ranked.ranks b a ∙ ap (λ n. leb n (rank a)) second ∙ ap (leb (rank_in rank (records t) c.args.k)) first)

@@ -6,8 +6,8 @@ use Rattle.chain.proofs.Orders.{chosen_by}
 use Rattle.chain.proofs.Leads.{chain-once, first-within, next_ends, chain-cons, at-end}
 use Rattle.chain.proofs.Links.take_first.Goals as goal
 
-pub next-of-requires : goal.next-of-requires
-next-of-requires g c = first-within (nexts c.args.self.now) c.args.head.now c.in-Some.i c.in-Some.is c.requires
+pub next_of-requires : goal.next_of-requires
+next_of-requires g c = first-within (nexts c.args.self.now) c.args.head.now c.in-Some.i c.in-Some.is c.requires
 
 pub returns-in-None : goal.returns-in-None
 returns-in-None g c =
@@ -20,11 +20,11 @@ returns-in-None g c =
 pub returns-in-Some : goal.returns-in-Some
 returns-in-Some g c =
     let ns = nexts c.args.self.now in
-    let s = chain-cons ns c.args.head.now c.in-Some.i c.in-Some.is c.requires c.next-of.result c.next-of.ensures in
+    let s = chain-cons ns c.args.head.now c.in-Some.i c.in-Some.is c.requires c.next_of.result c.next_of.ensures in
     let f = sym (ap first s) in
     let r = sym (ap rest s) in
     record {
-      ends = next_ends ns c.args.head.now c.in-Some.i c.in-Some.is c.requires c.next-of.result c.next-of.ensures;
+      ends = next_ends ns c.args.head.now c.in-Some.i c.in-Some.is c.requires c.next_of.result c.next_of.ensures;
       first = f;
       rest = r;
       laws = chosen_by _ _ _ (chain-once ns c.args.head.now c.requires) f r;

@@ -6,8 +6,8 @@ use Rattle.chain.proofs.Leads.{chain-once}
 use Rattle.chain.proofs.Writes.{out_of_none}
 use Rattle.chain.proofs.Links.take_out.Goals as goal
 
-pub returns-then-is-on : goal.returns-then-is-on
-returns-then-is-on g c =
+pub returns-then-is_on : goal.returns-then-is_on
+returns-then-is_on g c =
     let u = c.unlink.ensures in
     let ns = nexts c.args.self.now in
     record {
@@ -16,9 +16,9 @@ returns-then-is-on g c =
       laws = taken-out-by c.args.i (chain ns c.args.head.now) (chain (nexts c.unlink.new.self) c.unlink.new.head) (chain-once ns c.args.head.now c.requires) u.links.list;
     }
 
-pub returns-else-is-on : goal.returns-else-is-on
-returns-else-is-on g c =
-    let u = out_of_none (nexts c.args.self.now) c.args.head.now c.args.i c.requires (sym c.is-on.ensures ∙ c.if-is-on.false) in
+pub returns-else-is_on : goal.returns-else-is_on
+returns-else-is_on g c =
+    let u = out_of_none (nexts c.args.self.now) c.args.head.now c.args.i c.requires (sym c.is_on.ensures ∙ c.if-is_on.false) in
     let ns = nexts c.args.self.now in
     let xs = chain ns c.args.head.now in
     record { links = u; records = refl; laws = taken-out-by c.args.i xs xs (chain-once ns c.args.head.now c.requires) u.list }

@@ -4,21 +4,21 @@ use Rattle.chain.specs.Chains.{nexts}
 use Rattle.chain.proofs.Writes.{on-within, before-within, out_of_first, out_of_later}
 use Rattle.chain.proofs.Links.unlink.Goals as goal
 
-pub next-of-rest-requires : goal.next-of-rest-requires
-next-of-rest-requires g c = on-within (nexts c.args.self.now) c.args.head.now c.args.i c.requires.ends c.requires.on
+pub next_of-rest-requires : goal.next_of-rest-requires
+next_of-rest-requires g c = on-within (nexts c.args.self.now) c.args.head.now c.args.i c.requires.ends c.requires.on
 
 pub lead-requires : goal.lead-requires
-lead-requires g c = before-within (nexts c.args.self.now) c.args.head.now c.args.i c.requires.ends c.requires.on c.next-of-rest.result c.next-of-rest.ensures c.in-Some.p c.in-Some.ensures
+lead-requires g c = before-within (nexts c.args.self.now) c.args.head.now c.args.i c.requires.ends c.requires.on c.next_of-rest.result c.next_of-rest.ensures c.in-Some.p c.in-Some.ensures
 
 pub returns-in-None : goal.returns-in-None
 returns-in-None g c = record {
-  links = out_of_first (nexts c.args.self.now) c.args.head.now c.args.i c.requires.ends c.requires.on c.next-of-rest.result c.next-of-rest.ensures c.in-None.ensures;
+  links = out_of_first (nexts c.args.self.now) c.args.head.now c.args.i c.requires.ends c.requires.on c.next_of-rest.result c.next_of-rest.ensures c.in-None.ensures;
   records = refl;
 }
 
 pub returns-in-Some : goal.returns-in-Some
 returns-in-Some g c = record {
-  links = out_of_later (nexts c.args.self.now) c.args.head.now c.args.i c.requires.ends c.requires.on c.next-of-rest.result c.next-of-rest.ensures
+  links = out_of_later (nexts c.args.self.now) c.args.head.now c.args.i c.requires.ends c.requires.on c.next_of-rest.result c.next_of-rest.ensures
       c.in-Some.p c.in-Some.ensures (nexts c.lead.new.self) c.lead.ensures.next;
   records = c.lead.ensures.records;
 }

@@ -7,8 +7,8 @@ use Rattle.chain.proofs.Writes.{on-within}
 use Rattle.chain_tests.proofs.Moves.{left-kept, spread-still}
 use Rattle.chain_tests.proofs.Desk.start.Goals as goal
 
-pub link-by-rank-requires : goal.link-by-rank-requires
-link-by-rank-requires g c =
+pub link_by_rank-requires : goal.link_by_rank-requires
+link_by_rank-requires g c =
     let d = c.args.self.now in
     let ns = nexts d.links in
     let i = c.in-Some.i in
@@ -19,20 +19,20 @@ link-by-rank-requires g c =
       fresh = count_none i (chain ns d.ready) (let a = some-count i (chain ns d.free) on in omega (arith, d.spread i));
     }
 
-pub invariant-of-self-in-Some : goal.invariant-of-self-in-Some
-invariant-of-self-in-Some g c =
+pub invariant_of-self-in-Some : goal.invariant_of-self-in-Some
+invariant_of-self-in-Some g c =
     let d = c.args.self.now in
     let ns = nexts d.links in
     let t = c.in-Some.ensures in
-    let u = c.link-by-rank.ensures in
-    let kept = left-kept ns d.free c.take-first.new.head d.ready c.in-Some.i d.spread t.first t.rest (nexts c.link-by-rank.new.self) c.link-by-rank.new.head _ t.ends u.links in
-    let few = spread-still ns d.free c.take-first.new.head d.ready c.in-Some.i d.spread t.first t.rest in
+    let u = c.link_by_rank.ensures in
+    let kept = left-kept ns d.free c.take_first.new.head d.ready c.in-Some.i d.spread t.first t.rest (nexts c.link_by_rank.new.self) c.link_by_rank.new.head _ t.ends u.links in
+    let few = spread-still ns d.free c.take_first.new.head d.ready c.in-Some.i d.spread t.first t.rest in
     (kept.0, (u.links.ends, ((λ k. let a = ap (count k) kept.1 in omega (arith, few k, u.laws.counts k)), record {})))
 
 pub returns-in-Some : goal.returns-in-Some
 returns-in-Some g c =
     let d = c.args.self.now in
     let t = c.in-Some.ensures in
-    let u = c.link-by-rank.ensures in
-    let kept = left-kept (nexts d.links) d.free c.take-first.new.head d.ready c.in-Some.i d.spread t.first t.rest (nexts c.link-by-rank.new.self) c.link-by-rank.new.head _ t.ends u.links in
+    let u = c.link_by_rank.ensures in
+    let kept = left-kept (nexts d.links) d.free c.take_first.new.head d.ready c.in-Some.i d.spread t.first t.rest (nexts c.link_by_rank.new.self) c.link_by_rank.new.head _ t.ends u.links in
     record { first = t.first; rest = kept.1 ∙ t.rest; ready = u.links.list; records = u.records }

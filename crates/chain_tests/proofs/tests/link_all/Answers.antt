@@ -14,10 +14,10 @@ loop-i-init g c =
 pub loop-i-preserved : goal.loop-i-preserved
 loop-i-preserved g c =
     let l = c.loop-i in
-    let u = c.link-by-rank.ensures.links in
+    let u = c.link_by_rank.ensures.links in
     let e = c.replace.ensures.next in (
       u.ends,
       u.size ∙ ap length e ∙ l.invariant.1,
-      later-fresh (nexts l.links) (nexts c.replace.new.self) (nexts c.link-by-rank.new.self) l.head c.link-by-rank.new.head l.i l.invariant.2 e
+      later-fresh (nexts l.links) (nexts c.replace.new.self) (nexts c.link_by_rank.new.self) l.head c.link_by_rank.new.head l.i l.invariant.2 e
           (rank_in g.R.Ranked.rank (records c.replace.new.self)) u.list,
     )

@@ -5,4 +5,4 @@ use Rattle.clock.proofs.Sleeps.{sleepers_are}
 use Rattle.clock.proofs.ClockWaits.is_sleeping.Goals as goal
 
 pub returns : goal.returns
-returns c = c.is-on.ensures ∙ sym (ap (has c.args.t) (sleepers_are c.args.self.now.line))
+returns c = c.is_on.ensures ∙ sym (ap (has c.args.t) (sleepers_are c.args.self.now.line))

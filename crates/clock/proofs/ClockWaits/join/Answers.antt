@@ -9,8 +9,8 @@ use Rattle.clock.proofs.ClockWaits.join.Goals as goal
 pub join-requires : goal.join-requires
 join-requires c = record { within = c.requires.within; fresh = sym (ap (has c.args.t) (sleepers_are c.args.self.now.line)) ∙ c.requires.fresh }
 
-pub invariant-of-self : goal.invariant-of-self
-invariant-of-self c =
+pub invariant_of-self : goal.invariant_of-self
+invariant_of-self c =
     let x = c.args.self.now.line in
     let y = c.join.new.self in
     let is = wait_joined c.args.t c.args.due (list (record { due = 0 }) x) (list (record { due = 0 }) y) (c.join.ensures.list (record { due = 0 })) in

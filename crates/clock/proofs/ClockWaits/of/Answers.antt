@@ -6,11 +6,11 @@ use Rattle.rules.specs.State as rules
 use Rattle.clock.proofs.Sleeps.{none_wait}
 use Rattle.clock.proofs.ClockWaits.of.Goals as goal
 
-pub invariant-of-result : goal.invariant-of-result
-invariant-of-result c = let x = c.in-ok-line.line in (ap (sorted (λ (w : rules.ClockWait). w.due)) (none_wait (list (record { due = 0 }) x) (c.in-ok-line.ensures.list (record { due = 0 }))), record {})
+pub invariant_of-result : goal.invariant_of-result
+invariant_of-result c = let x = c.in_ok-line.line in (ap (sorted (λ (w : rules.ClockWait). w.due)) (none_wait (list (record { due = 0 }) x) (c.in_ok-line.ensures.list (record { due = 0 }))), record {})
 
 pub returns : goal.returns
-returns c = let x = c.in-ok-line.line in record {
-  waits = none_wait (list (record { due = 0 }) x) (c.in-ok-line.ensures.list (record { due = 0 }));
-  room = c.in-ok-line.ensures.room;
+returns c = let x = c.in_ok-line.line in record {
+  waits = none_wait (list (record { due = 0 }) x) (c.in_ok-line.ensures.list (record { due = 0 }));
+  room = c.in_ok-line.ensures.room;
 }

@@ -5,10 +5,10 @@ use Rattle.clock.specs.Waits.{waits_of}
 use Rattle.clock.proofs.Sleeps.{first-task, popped_due, popped_later, popped_none, released, rest_as, rest-by-due}
 use Rattle.clock.proofs.ClockWaits.pop_due.Goals as goal
 
-pub returns-in-default : goal.returns-in-default
-returns-in-default c =
+pub returns-in_default : goal.returns-in_default
+returns-in_default c =
     let x = c.args.self.now.line in
-    let p = popped_none c.args.reading (list (record { due = 0 }) x) (c.in-default.ensures (record { due = 0 })) in
+    let p = popped_none c.args.reading (list (record { due = 0 }) x) (c.in_default.ensures (record { due = 0 })) in
     record { first = p.0; waits = p.1; laws = released c.args.reading None (waits_of x) (waits_of x) p.0 p.1; room = refl }
 
 pub returns-then-first-reading : goal.returns-then-first-reading
@@ -17,8 +17,8 @@ returns-then-first-reading c =
     let p = popped_later c.args.reading (list (record { due = 0 }) x) c.in-Some.first (c.in-Some.ensures (record { due = 0 })) (omega arith) c.args.self.now.sorted in
     record { first = p.0; waits = p.1; laws = released c.args.reading None (waits_of x) (waits_of x) p.0 p.1; room = refl }
 
-pub invariant-of-self : goal.invariant-of-self
-invariant-of-self c =
+pub invariant_of-self : goal.invariant_of-self
+invariant_of-self c =
     let x = c.args.self.now.line in
     let y = c.pop.new.self in
     let is = rest_as (list (record { due = 0 }) x) (list (record { due = 0 }) y) (c.pop.ensures.list (record { due = 0 })) in

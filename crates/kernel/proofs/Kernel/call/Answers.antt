@@ -5,8 +5,8 @@ use Rattle.tables.specs.View.{blanks}
 use Rattle.tables.proofs.Stands.{kept}
 use Rattle.kernel.proofs.Kernel.call.Goals as goal
 
-pub invariant-of-self : goal.invariant-of-self
-invariant-of-self c =
+pub invariant_of-self : goal.invariant_of-self
+invariant_of-self c =
     let k = c.args.self.now in
     let e = c.make.ensures in
     (kept k.tables c.make.new.tables (call_with (λ _. []) c.args.call) e.lawful (e.does.state blanks) e.does.room k.stands, tt)

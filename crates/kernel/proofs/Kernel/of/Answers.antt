@@ -3,7 +3,7 @@ use Rattle.tables.specs.View.{blanks}
 use Rattle.tables.proofs.Stands.{begun}
 use Rattle.kernel.proofs.Kernel.of.Goals as goal
 
-pub invariant-of-result : goal.invariant-of-result
-invariant-of-result c =
-    let h = c.in-ok-tables.ensures in
-    (begun c.args.n c.args.timed c.in-ok-tables.tables c.requires.some c.requires.few (h.begins blanks) h.room, tt)
+pub invariant_of-result : goal.invariant_of-result
+invariant_of-result c =
+    let h = c.in_ok-tables.ensures in
+    (begun c.args.n c.args.timed c.in_ok-tables.tables c.requires.some c.requires.few (h.begins blanks) h.room, tt)

@@ -3,4 +3,4 @@ use Rattle.std.proofs.Common.{rules}
 use Rattle.kernel.proofs.Kernel.place.Goals as goal
 
 pub returns-then-k-count : goal.returns-then-k-count
-returns-then-k-count c us = (search rules, c.place-of.ensures us)
+returns-then-k-count c us = (search rules, c.place_of.ensures us)

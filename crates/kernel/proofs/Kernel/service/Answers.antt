@@ -6,8 +6,8 @@ use Rattle.tables.specs.View.{blanks}
 use Rattle.tables.proofs.Stands.{kept-over}
 use Rattle.kernel.proofs.Kernel.service.Goals as goal
 
-pub invariant-of-self : goal.invariant-of-self
-invariant-of-self g c =
+pub invariant_of-self : goal.invariant_of-self
+invariant_of-self g c =
     let k = c.args.self.now in
     let u = number_of c.args.unit in
     let m = g.U.Unit.medium c.args.device.now in

@@ -6,11 +6,11 @@ use Rattle.chain.proofs.Leads.{first-within}
 use Rattle.line.proofs.Lines.{waits_end, waits-first}
 use Rattle.line.proofs.Line.first.Goals as goal
 
-pub record-at-requires : goal.record-at-requires
-record-at-requires g c = let s = c.args.self.now in first-within (nexts s.links) s.head c.in-Some.task c.in-Some.is s.ends
+pub record_at-requires : goal.record_at-requires
+record_at-requires g c = let s = c.args.self.now in first-within (nexts s.links) s.head c.in-Some.task c.in-Some.is s.ends
 
 pub returns-in-None : goal.returns-in-None
 returns-in-None g c none = let s = c.args.self.now in sym (ap first (waits_end none s.links s.head c.in-None.is))
 
 pub returns-in-Some : goal.returns-in-Some
-returns-in-Some g c none = let s = c.args.self.now in waits-first none s.links s.head c.in-Some.task c.in-Some.is s.ends c.record-at.result.now c.record-at.ensures
+returns-in-Some g c none = let s = c.args.self.now in waits-first none s.links s.head c.in-Some.task c.in-Some.is s.ends c.record_at.result.now c.record_at.ensures

@@ -7,7 +7,7 @@ pub returns : goal.returns
 returns g c =
     let s = c.args.self.now in
     let p = c.replace in
-    let u = c.link-by-rank in
+    let u = c.link_by_rank in
     record {
       list = λ none. waits-join none s.links s.head p.new.self c.args.t c.args.wait c.requires.within p.ensures.next p.ensures.records
           g.R.Ranked.rank s.ends c.requires.fresh u.new.self u.new.head u.ensures.records u.ensures.links.list;

@@ -6,11 +6,11 @@ use Rattle.chain.proofs.Leads.{ends-none}
 use Rattle.line.proofs.Lines.{waits_end}
 use Rattle.line.proofs.Line.of.Goals as goal
 
-pub invariant-of-result : goal.invariant-of-result
-invariant-of-result g c = (ends-none (nexts c.in-ok-links.links), record {})
+pub invariant_of-result : goal.invariant_of-result
+invariant_of-result g c = (ends-none (nexts c.in_ok-links.links), record {})
 
 pub returns : goal.returns
 returns g c = record {
-  list = λ none. waits_end none c.in-ok-links.links None refl;
-  room = ap length c.in-ok-links.ensures.nexts ∙ length-replicate c.args.n None;
+  list = λ none. waits_end none c.in_ok-links.links None refl;
+  room = ap length c.in_ok-links.ensures.nexts ∙ length-replicate c.args.n None;
 }

@@ -19,10 +19,10 @@ returns-in-Some g c =
       room = ap length p.ensures.next;
     }
 
-pub returns-in-default : goal.returns-in-default
-returns-in-default g c =
+pub returns-in_default : goal.returns-in_default
+returns-in_default g c =
     let s = c.args.self.now in
     record {
-      list = λ none. (let e = waits_end none s.links s.head c.in-default.is in e ∙ sym (ap (on_first c.args.wait) e));
+      list = λ none. (let e = waits_end none s.links s.head c.in_default.is in e ∙ sym (ap (on_first c.args.wait) e));
       room = refl;
     }

@@ -12,7 +12,7 @@ pub loop-step-preserved : goal.loop-step-preserved
 loop-step-preserved g c =
     let l = c.loop-step in
     let i = l.invariant in
-    let e = c.push-reserved.ensures in
+    let e = c.push_reserved.ensures in
     let n = i.3 in
     let k = i.4 in (
       i.0 ++ c.make.result ∷ [],

@@ -10,6 +10,6 @@ use Rattle.moving.proofs.moves.with_byte.Goals as goal
 pub returns : goal.returns
 returns c =
     let t = c.args.task in
-    let w : writes t.kind ≡ false = sym c.is-write.ensures ∙ c.if-is-write.false in
+    let w : writes t.kind ≡ false = sym c.is_write.ensures ∙ c.if-is_write.false in
     let l : t.size < length t.bytes = omega (arith, c.requires w) in
     ap (λ (z : List ℕ). with_bytes z (as_task t)) (take_more_set t.bytes t.size c.args.byte l ∙ sym (cond-false (writes t.kind) (take t.size t.bytes) (take t.size t.bytes ++ c.args.byte ∷ []) w))

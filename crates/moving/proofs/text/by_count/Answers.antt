@@ -4,4 +4,4 @@ use Rattle.moving.proofs.Texts.{front-is}
 use Rattle.moving.proofs.text.by_count.Goals as goal
 
 pub returns : goal.returns
-returns c = record { bytes = front-is c.copy-from-slice.new.self c.args.text.now _ c.copy-from-slice.ensures.after; size = refl }
+returns c = record { bytes = front-is c.copy_from_slice.new.self c.args.text.now _ c.copy_from_slice.ensures.after; size = refl }

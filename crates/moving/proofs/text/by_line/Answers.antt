@@ -10,11 +10,11 @@ use Rattle.moving.proofs.text.by_line.Goals as goal
 one_more : (bytes xs : List ℕ) (i : ℕ) → i < length xs → length xs ≤ 80 → length bytes ≡ 80 → take i bytes ≡ take i xs → take (i + 1) (set bytes i (get_or xs i 0)) ≡ take (i + 1) xs
 one_more bytes xs i l h n e = take_more_set bytes i (get_or xs i 0) (omega arith) ∙ ap (λ (z : List ℕ). z ++ get_or xs i 0 ∷ []) e ∙ sym (take_more xs i 0 l)
 
-pub returns-then-is-line-end : goal.returns-then-is-line-end
-returns-then-is-line-end c =
+pub returns-then-is_line_end : goal.returns-then-is_line_end
+returns-then-is_line_end c =
     let l = c.loop-i in
     let xs = c.args.text.now in
-    let w = line_at xs l.i (omega arith) l.invariant.2 (sym c.is-line-end.ensures ∙ c.if-is-line-end.true) in
+    let w = line_at xs l.i (omega arith) l.invariant.2 (sym c.is_line_end.ensures ∙ c.if-is_line_end.true) in
     record {
       bytes = ap Some (one_more l.bytes xs l.i (omega arith) c.requires l.invariant.1 l.invariant.0 ∙ sym w.is) ∙ sym (cond-true (has_line_end xs) (Some (line xs)) None w.ends);
       size = ap Some (sym w.size) ∙ sym (cond-true (has_line_end xs) (Some (length (line xs))) None w.ends);
@@ -27,7 +27,7 @@ loop-i-preserved c =
     let v = get_or xs l.i 0 in (
       one_more l.bytes xs l.i (omega arith) c.requires l.invariant.1 l.invariant.0,
       length-set l.bytes l.i v ∙ l.invariant.1,
-      no-end-more xs l.i (omega arith) l.invariant.2 (sym c.is-line-end.ensures ∙ c.if-is-line-end.false),
+      no-end-more xs l.i (omega arith) l.invariant.2 (sym c.is_line_end.ensures ∙ c.if-is_line_end.false),
     )
 
 pub returns : goal.returns

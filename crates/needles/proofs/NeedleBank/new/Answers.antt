@@ -3,5 +3,5 @@ use Rattle.std.proofs.Common.{arith}
 use Rattle.needles.proofs.Filled.{new_blank, new_wide}
 use Rattle.needles.proofs.NeedleBank.new.Goals as goal
 
-pub invariant-of-result : goal.invariant-of-result
-invariant-of-result c = (omega arith, (new_blank 512, (new_wide 512, record {})))
+pub invariant_of-result : goal.invariant_of-result
+invariant_of-result c = (omega arith, (new_blank 512, (new_wide 512, record {})))

@@ -17,4 +17,4 @@ unfolding row_bytes
 returns c =
     let size : length c.args.self.now.rows ≡ 512 = search rules in
     let e = byte_taken c.args.self.now.rows c.args.self.now.count c.args.at c.if-at-self.false (omega arith) in
-    ap (λ bytes. Some (get_or bytes (c.args.at % 8) 0)) c.to-be-bytes-bytes.ensures ∙ sym e
+    ap (λ bytes. Some (get_or bytes (c.args.at % 8) 0)) c.to_be_bytes-bytes.ensures ∙ sym e

@@ -8,7 +8,7 @@ pub returns : goal.returns
 unfolding row_bytes
 returns c =
     let hb : c.args.byte < 256 = search rules in
-    let e = c.from-be-bytes.ensures in
-    let t = c.to-be-bytes-bytes.ensures in
+    let e = c.from_be_bytes.ensures in
+    let t = c.to_be_bytes-bytes.ensures in
     let f : List ℕ → ℕ = λ xs. row_of (set xs c.args.place c.args.byte) 0 in
-    byte_set c.args.row c.args.place c.args.byte c.from-be-bytes.result hb c.requires (e ∙ ap f t)
+    byte_set c.args.row c.args.place c.args.byte c.from_be_bytes.result hb c.requires (e ∙ ap f t)

@@ -5,4 +5,4 @@ use Rattle.queues.proofs.Requests.{askers_are}
 use Rattle.queues.proofs.Queue.is_asking.Goals as goal
 
 pub returns : goal.returns
-returns c = c.is-on.ensures ∙ sym (ap (has c.args.t) (askers_are c.args.self.now))
+returns c = c.is_on.ensures ∙ sym (ap (has c.args.t) (askers_are c.args.self.now))

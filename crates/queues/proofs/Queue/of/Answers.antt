@@ -5,5 +5,5 @@ use Rattle.queues.proofs.Queue.of.Goals as goal
 
 pub returns : goal.returns
 returns c =
-    let x = c.in-ok-line.line in
-    record { requests = requests-none (list (record { size = 0; moved = 0 }) x) (list (record { size = 0; moved = 0 }) x) (c.in-ok-line.ensures.list (record { size = 0; moved = 0 })); room = c.in-ok-line.ensures.room }
+    let x = c.in_ok-line.line in
+    record { requests = requests-none (list (record { size = 0; moved = 0 }) x) (list (record { size = 0; moved = 0 }) x) (c.in_ok-line.ensures.list (record { size = 0; moved = 0 })); room = c.in_ok-line.ensures.room }

@@ -8,8 +8,8 @@ use Rattle.tasks.proofs.Places.{in_change, size-change}
 use Rattle.tasks.proofs.Tables.{change_as}
 use Rattle.tasks.proofs.Tasks.clear.Goals as goal
 
-pub put-free-requires : goal.put-free-requires
-put-free-requires c =
+pub put_free-requires : goal.put_free-requires
+put_free-requires c =
     let a = table c.args.self.now in
     let t = c.args.t in
     let e : table c.replace.new.self ≡ change t (λ _. blank) a = c.replace.ensures ∙ change_as t (λ _. blank) _ a c.new.ensures in
@@ -22,4 +22,4 @@ pub returns : goal.returns
 returns c =
     let a = table c.args.self.now in
     let t = c.args.t in
-    c.put-free.ensures ∙ ap (put_free t) (c.replace.ensures ∙ change_as t (λ _. blank) _ a c.new.ensures)
+    c.put_free.ensures ∙ ap (put_free t) (c.replace.ensures ∙ change_as t (λ _. blank) _ a c.new.ensures)

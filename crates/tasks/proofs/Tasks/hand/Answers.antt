@@ -12,9 +12,9 @@ release-requires c =
     let a = table c.args.self.now in
     let t = c.args.t in
     let f = with_word c.args.message in
-    let u = unplaced_as t (change t f a) _ c.give-word.ensures (subst (λ n. t < n) (sym (size-change t f a)) c.requires.within) (in_change t t f a ∙ c.requires.nowhere) in
+    let u = unplaced_as t (change t f a) _ c.give_word.ensures (subst (λ n. t < n) (sym (size-change t f a)) c.requires.within) (in_change t t f a ∙ c.requires.nowhere) in
     record { within = u.0; nowhere = u.1 }
 
 pub returns : goal.returns
 unfolding hand
-returns c = c.release.ensures ∙ ap (release c.args.t) c.give-word.ensures
+returns c = c.release.ensures ∙ ap (release c.args.t) c.give_word.ensures

@@ -11,6 +11,6 @@ clear-requires c =
     let s = c.args.self.now in
     let a = table s in
     let k = c.args.k in
-    let u = unplaced_as k (unsuspend k (take_out k a)) _ (c.unsuspend.ensures ∙ ap (unsuspend k) c.take-out.ensures)
+    let u = unplaced_as k (unsuspend k (take_out k a)) _ (c.unsuspend.ensures ∙ ap (unsuspend k) c.take_out.ensures)
     (subst (λ ts. k < length ts) (sym (tasks-unsuspend k (take_out k a) ∙ tasks-take_out k a)) c.requires.within) (left-nowhere a s.placed k c.requires.live c.requires.other) in
     record { within = u.0; nowhere = u.1 }

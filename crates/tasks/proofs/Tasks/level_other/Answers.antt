@@ -8,13 +8,13 @@ use Rattle.tasks.proofs.Tasks.level_other.Goals as goal
 
 pub link-requires : goal.link-requires
 link-requires c =
-    let s = c.set-level.new.self in
-    let u = unready_unplaced (table s) s.placed c.args.k (sym c.is-ready.ensures ∙ c.if-is-ready.true) _ c.take-out.ensures in
+    let s = c.set_level.new.self in
+    let u = unready_unplaced (table s) s.placed c.args.k (sym c.is_ready.ensures ∙ c.if-is_ready.true) _ c.take_out.ensures in
     record { within = u.0; nowhere = u.1 }
 
-pub returns-then-is-ready : goal.returns-then-is-ready
-returns-then-is-ready c =
-    c.link.ensures ∙ ap (link c.args.k) c.take-out.ensures ∙ level-ready (table c.args.self.now) c.args.k _ c.args.level c.set-level.ensures (sym c.is-ready.ensures ∙ c.if-is-ready.true)
+pub returns-then-is_ready : goal.returns-then-is_ready
+returns-then-is_ready c =
+    c.link.ensures ∙ ap (link c.args.k) c.take_out.ensures ∙ level-ready (table c.args.self.now) c.args.k _ c.args.level c.set_level.ensures (sym c.is_ready.ensures ∙ c.if-is_ready.true)
 
-pub returns-else-is-ready : goal.returns-else-is-ready
-returns-else-is-ready c = level_else (table c.args.self.now) c.args.k _ c.args.level c.set-level.ensures (sym c.is-ready.ensures ∙ c.if-is-ready.false)
+pub returns-else-is_ready : goal.returns-else-is_ready
+returns-else-is_ready c = level_else (table c.args.self.now) c.args.k _ c.args.level c.set_level.ensures (sym c.is_ready.ensures ∙ c.if-is_ready.false)

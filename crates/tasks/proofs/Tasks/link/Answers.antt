@@ -2,8 +2,8 @@
 use Rattle.tasks.proofs.Tables.{linked, not-ready, within-links}
 use Rattle.tasks.proofs.Tasks.link.Goals as goal
 
-pub link-by-rank-requires : goal.link-by-rank-requires
-link-by-rank-requires c =
+pub link_by_rank-requires : goal.link_by_rank-requires
+link_by_rank-requires c =
     let s = c.args.self.now in
     record {
       ends = s.ends.1;
@@ -11,13 +11,13 @@ link-by-rank-requires c =
       fresh = not-ready s c.args.t c.requires.within c.requires.nowhere;
     }
 
-pub invariant-of-self : goal.invariant-of-self
-invariant-of-self c =
-    let u = c.link-by-rank in
+pub invariant_of-self : goal.invariant_of-self
+invariant_of-self c =
+    let u = c.link_by_rank in
     let n = linked c.args.self.now c.args.t c.requires.within c.requires.nowhere u.new.self u.new.head u.ensures.records u.ensures.links in
     (n.ends, (n.placed, record {}))
 
 pub returns : goal.returns
 returns c =
-    let u = c.link-by-rank in
+    let u = c.link_by_rank in
     (linked c.args.self.now c.args.t c.requires.within c.requires.nowhere u.new.self u.new.head u.ensures.records u.ensures.links).is

@@ -6,15 +6,15 @@ use Rattle.rules.specs.State.{begin_table}
 use Rattle.tasks.proofs.Tables.{Stand, begun}
 use Rattle.tasks.proofs.Tasks.of.Goals as goal
 
-pub invariant-of-result : goal.invariant-of-result
-invariant-of-result c =
-    let u = c.link-all-but-first-free in
-    let k = c.in-ok-links.ensures in
+pub invariant_of-result : goal.invariant_of-result
+invariant_of-result c =
+    let u = c.link_all_but_first-free in
+    let k = c.in_ok-links.ensures in
     let n = begun u.new.self u.result c.args.n _ c.new.result c.requires (ap length k.nexts ∙ length-replicate c.args.n None) c.new.ensures (u.ensures.records ∙ k.records) u.ensures.links.ends u.ensures.links.list in
     (n.ends, (n.placed, record {}))
 
 pub returns : goal.returns
 returns c =
-    let u = c.link-all-but-first-free in
-    let k = c.in-ok-links.ensures in
+    let u = c.link_all_but_first-free in
+    let k = c.in_ok-links.ensures in
     (begun u.new.self u.result c.args.n _ c.new.result c.requires (ap length k.nexts ∙ length-replicate c.args.n None) c.new.ensures (u.ensures.records ∙ k.records) u.ensures.links.ends u.ensures.links.list).is

@@ -2,8 +2,8 @@
 use Rattle.tasks.proofs.Tables.{freed, not_free, within-links}
 use Rattle.tasks.proofs.Tasks.put_free.Goals as goal
 
-pub put-first-requires : goal.put-first-requires
-put-first-requires c =
+pub put_first-requires : goal.put_first-requires
+put_first-requires c =
     let s = c.args.self.now in
     record {
       ends = s.ends.0;
@@ -11,13 +11,13 @@ put-first-requires c =
       fresh = not_free s c.args.t c.requires.within c.requires.nowhere;
     }
 
-pub invariant-of-self : goal.invariant-of-self
-invariant-of-self c =
-    let u = c.put-first in
+pub invariant_of-self : goal.invariant_of-self
+invariant_of-self c =
+    let u = c.put_first in
     let n = freed c.args.self.now c.args.t c.requires.within c.requires.nowhere u.new.self u.new.head u.ensures.records u.ensures.links in
     (n.ends, (n.placed, record {}))
 
 pub returns : goal.returns
 returns c =
-    let u = c.put-first in
+    let u = c.put_first in
     (freed c.args.self.now c.args.t c.requires.within c.requires.nowhere u.new.self u.new.head u.ensures.records u.ensures.links).is

@@ -8,13 +8,13 @@ use Rattle.tasks.proofs.Tasks.ready_other.Goals as goal
 
 pub link-requires : goal.link-requires
 link-requires c =
-    let s = c.set-mark.new.self in
-    let u = unsuspended_unplaced (table s) s.placed c.args.k (sym c.is-suspended.ensures ∙ c.if-is-suspended.true) _ c.unsuspend.ensures in
+    let s = c.set_mark.new.self in
+    let u = unsuspended_unplaced (table s) s.placed c.args.k (sym c.is_suspended.ensures ∙ c.if-is_suspended.true) _ c.unsuspend.ensures in
     record { within = u.0; nowhere = u.1 }
 
-pub returns-then-is-suspended : goal.returns-then-is-suspended
-returns-then-is-suspended c =
-    c.link.ensures ∙ ap (link c.args.k) c.unsuspend.ensures ∙ ready-suspended (table c.args.self.now) c.args.k _ c.set-mark.ensures (sym c.is-suspended.ensures ∙ c.if-is-suspended.true)
+pub returns-then-is_suspended : goal.returns-then-is_suspended
+returns-then-is_suspended c =
+    c.link.ensures ∙ ap (link c.args.k) c.unsuspend.ensures ∙ ready-suspended (table c.args.self.now) c.args.k _ c.set_mark.ensures (sym c.is_suspended.ensures ∙ c.if-is_suspended.true)
 
-pub returns-else-is-suspended : goal.returns-else-is-suspended
-returns-else-is-suspended c = ready_else (table c.args.self.now) c.args.k _ c.set-mark.ensures (sym c.is-suspended.ensures ∙ c.if-is-suspended.false)
+pub returns-else-is_suspended : goal.returns-else-is_suspended
+returns-else-is_suspended c = ready_else (table c.args.self.now) c.args.k _ c.set_mark.ensures (sym c.is_suspended.ensures ∙ c.if-is_suspended.false)

@@ -6,8 +6,8 @@ use Rattle.tasks.proofs.Tasks.replace.Goals as goal
 pub replace-requires : goal.replace-requires
 replace-requires c = omega (arith, c.requires, size c.args.self.now)
 
-pub invariant-of-self : goal.invariant-of-self
-invariant-of-self c =
+pub invariant_of-self : goal.invariant_of-self
+invariant_of-self c =
     let u = c.replace in
     let n = replaced c.args.self.now c.args.t c.args.with u.new.self u.ensures.next u.ensures.records in
     (n.ends, (n.placed, record {}))

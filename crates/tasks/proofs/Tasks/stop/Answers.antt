@@ -2,8 +2,8 @@
 use Rattle.tasks.proofs.Tables.{stopped}
 use Rattle.tasks.proofs.Tasks.stop.Goals as goal
 
-pub invariant-of-self : goal.invariant-of-self
-invariant-of-self c = let n = stopped c.args.self.now in (n.ends, (n.placed, record {}))
+pub invariant_of-self : goal.invariant_of-self
+invariant_of-self c = let n = stopped c.args.self.now in (n.ends, (n.placed, record {}))
 
 pub returns : goal.returns
 returns c = (stopped c.args.self.now).is

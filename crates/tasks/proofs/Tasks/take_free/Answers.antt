@@ -2,11 +2,11 @@
 use Rattle.tasks.proofs.Tables.{free-taken}
 use Rattle.tasks.proofs.Tasks.take_free.Goals as goal
 
-pub invariant-of-self : goal.invariant-of-self
-invariant-of-self c =
-    let u = c.take-first in
+pub invariant_of-self : goal.invariant_of-self
+invariant_of-self c =
+    let u = c.take_first in
     let n = free-taken c.args.self.now u.new.head u.ensures.ends u.ensures.rest in
     (n.ends, (n.placed, record {}))
 
 pub returns : goal.returns
-returns c = let u = c.take-first in (free-taken c.args.self.now u.new.head u.ensures.ends u.ensures.rest).is
+returns c = let u = c.take_first in (free-taken c.args.self.now u.new.head u.ensures.ends u.ensures.rest).is

@@ -2,13 +2,13 @@
 use Rattle.tasks.proofs.Tables.{taken_out}
 use Rattle.tasks.proofs.Tasks.take_out.Goals as goal
 
-pub invariant-of-self : goal.invariant-of-self
-invariant-of-self c =
-    let u = c.take-out in
+pub invariant_of-self : goal.invariant_of-self
+invariant_of-self c =
+    let u = c.take_out in
     let n = taken_out c.args.self.now c.args.t u.new.self u.new.head u.ensures.records u.ensures.links in
     (n.ends, (n.placed, record {}))
 
 pub returns : goal.returns
 returns c =
-    let u = c.take-out in
+    let u = c.take_out in
     (taken_out c.args.self.now c.args.t u.new.self u.new.head u.ensures.records u.ensures.links).is

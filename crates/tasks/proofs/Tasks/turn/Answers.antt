@@ -6,7 +6,7 @@ use Rattle.tasks.proofs.Places.{tasks-stop}
 use Rattle.tasks.proofs.Cases.{turn-none, turn-some}
 use Rattle.tasks.proofs.Placing.{running-within, stopped-nowhere, unplaced_as}
 use Rattle.tasks.proofs.Tasks.turn.Goals as goal
-use Rattle.tasks.proofs.Tasks.turn.Goals.{in-Some, in-default}
+use Rattle.tasks.proofs.Tasks.turn.Goals.{in-Some, in_default}
 
 pub link-requires : goal.link-requires
 link-requires c =
@@ -22,5 +22,5 @@ returns c =
     let a = table c.args.self.now in
     c.choose.ensures ∙ elim c.match-running.branch [
       | in-Some w ↦ let e = turn-some a w.in-Some.caller (sym w.in-Some.ensures) in let x = w.self-is in let y = w.link.ensures in let z = w.stop.ensures in cc
-      | in-default w ↦ let e = turn-none a (sym w.in-default.ensures) in let x = w.self-is in cc
+      | in_default w ↦ let e = turn-none a (sym w.in_default.ensures) in let x = w.self-is in cc
     ]

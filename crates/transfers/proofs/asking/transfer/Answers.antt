@@ -13,19 +13,19 @@ use Rattle.tables.specs.View.{state}
 use Rattle.tables.proofs.Stands.{caller, left}
 use Rattle.transfers.proofs.Requested.{Is, granted, refused}
 use Rattle.transfers.proofs.asking.transfer.Goals as goal
-use Rattle.transfers.proofs.asking.transfer.Goals.{After-turn, In-err-asked, at·returns-in-err-asked}
+use Rattle.transfers.proofs.asking.transfer.Goals.{After-turn, In-err-asked, at·returns-in_err-asked}
 
 -- the refusal, as the rules see it
 not_done : (c : In-err-asked) (us : List Medium)
-    → Is (state us c.args.tables.now) (Err c.in-err-asked.field-0.0) (apply (Transfer c.args.unit (transfer_with (λ t. t.now) c.args.transfer)) (state us c.args.tables.now))
+    → Is (state us c.args.tables.now) (Err c.in_err-asked.field-0.0) (apply (Transfer c.args.unit (transfer_with (λ t. t.now) c.args.transfer)) (state us c.args.tables.now))
 not_done c us =
-    refused c.args.tables.now c.in-Some.caller c.args.unit c.in-ok-at.at (transfer_with (λ t. t.now) c.args.transfer) c.in-Some.ensures c.in-ok-at.ensures us
-    c.in-err-asked.field-0.0 c.in-err-asked.ensures
+    refused c.args.tables.now c.in-Some.caller c.args.unit c.in_ok-at.at (transfer_with (λ t. t.now) c.args.transfer) c.in-Some.ensures c.in_ok-at.ensures us
+    c.in_err-asked.field-0.0 c.in_err-asked.ensures
 
-pub returns-in-err-asked : goal.returns-in-err-asked
-returns-in-err-asked c =
-    let p = err_from_is_err_and c.from-residual-in-err-asked.result c.from-residual-in-err-asked.ensures.1 in
-    record { state = λ us. (not_done (at·returns-in-err-asked c).In-err-asked us).state; answer = λ us. p.1 ∙ ap Err p.2 ∙ (not_done (at·returns-in-err-asked c).In-err-asked us).answer; room = (refl, refl, refl) }
+pub returns-in_err-asked : goal.returns-in_err-asked
+returns-in_err-asked c =
+    let p = err_from_is_err_and c.from-residual-in_err-asked.result c.from-residual-in_err-asked.ensures.1 in
+    record { state = λ us. (not_done (at·returns-in_err-asked c).In-err-asked us).state; answer = λ us. p.1 ∙ ap Err p.2 ∙ (not_done (at·returns-in_err-asked c).In-err-asked us).answer; room = (refl, refl, refl) }
 
 pub join-requires : goal.join-requires
 join-requires c =
@@ -44,9 +44,9 @@ done : (c : After-turn) (us : List Medium)
     → Is (state_of us c.turn.new.self c.args.tables.now.waits c.args.tables.now.cells c.join.new.self c.args.tables.now.clock c.args.tables.now.timed) (Ok 0)
     (apply (Transfer c.args.unit (transfer_with (λ t. t.now) c.args.transfer)) (state us c.args.tables.now))
 done c us =
-    let w = as_wanted c.in-ok-asked.asked in
-    granted c.args.tables.now c.in-Some.caller c.args.unit c.in-ok-at.at (transfer_with (λ t. t.now) c.args.transfer) c.in-Some.ensures c.in-ok-at.ensures us
-    w c.turn.new.self c.join.new.self c.in-ok-asked.ensures (table c.stop.new.self) (table c.replace.new.self) (as_task c.begun-task.result) (as_task c.task.result.now)
+    let w = as_wanted c.in_ok-asked.asked in
+    granted c.args.tables.now c.in-Some.caller c.args.unit c.in_ok-at.at (transfer_with (λ t. t.now) c.args.transfer) c.in-Some.ensures c.in_ok-at.ensures us
+    w c.turn.new.self c.join.new.self c.in_ok-asked.ensures (table c.stop.new.self) (table c.replace.new.self) (as_task c.begun-task.result) (as_task c.task.result.now)
     c.stop.ensures c.task.ensures c.begun-task.ensures c.replace.ensures c.turn.ensures c.join.ensures.queues
 
 pub returns : goal.returns

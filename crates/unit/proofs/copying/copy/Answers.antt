@@ -9,5 +9,5 @@ loop-byte-preserved g c = step _ _ _ _ c.in-Ok.byte (sym c.in-Ok.ensures.told) (
 
 pub returns : goal.returns
 returns g c =
-    let e = sym c.loop-byte.invariant ∙ ended _ _ _ c.in-default.field-0 (sym c.in-default.ensures.told) c.give.ensures.medium in
+    let e = sym c.loop-byte.invariant ∙ ended _ _ _ c.in_default.field-0 (sym c.in_default.ensures.told) c.give.ensures.medium in
     record { source = sym (ap (λ (q : Copied). q.source) e); target = sym (ap (λ (q : Copied). q.target) e); left_over = sym (ap (λ (q : Copied). q.left_over) e) }

@@ -13,7 +13,7 @@ pub join-requires : goal.join-requires
 join-requires c =
     let k = c.args.tables.now in
     let h = caller k c.requires c.in-Some.caller c.in-Some.ensures in
-    let e = c.put-word.ensures in
+    let e = c.put_word.ensures in
     let r = c.requires.1.1 in
     let w = h.within in
     record {

@@ -15,11 +15,11 @@ join-requires c =
     let w = h.within in
     record { within = omega arith; fresh = h.heard }
 
-pub give-word-requires : goal.give-word-requires
-give-word-requires c = (caller c.args.tables.now c.requires c.in-Some.caller c.in-Some.ensures).within
+pub give_word-requires : goal.give_word-requires
+give_word-requires c = (caller c.args.tables.now c.requires c.in-Some.caller c.in-Some.ensures).within
 
-pub release-sender-requires : goal.release-sender-requires
-release-sender-requires c =
+pub release_sender-requires : goal.release_sender-requires
+release_sender-requires c =
     let k = c.args.tables.now in
-    spread-still c.in-Some.caller (with_word c.word-message.result) (table k.tasks) (table c.give-word.new.self) c.args.cell _ (cells k.cells) (cells c.put-word.new.self)
-    c.give-word.ensures c.put-word.ensures.cells (spread-cells k c.requires)
+    spread-still c.in-Some.caller (with_word c.word-message.result) (table k.tasks) (table c.give_word.new.self) c.args.cell _ (cells k.cells) (cells c.put_word.new.self)
+    c.give_word.ensures c.put_word.ensures.cells (spread-cells k c.requires)

@@ -5,8 +5,8 @@ use Rattle.rules.specs.Clock.{last_reading}
 use Rattle.tables.proofs.Stands.{caller, clock-bound}
 use Rattle.waiting.proofs.timing.delay.Goals as goal
 
-pub overflow-add-due : goal.overflow-add-due
-overflow-add-due c = let k = c.args.tables.now in omega (arith, leb-true k.clock last_reading (clock-bound k c.requires))
+pub overflow_add-due : goal.overflow_add-due
+overflow_add-due c = let k = c.args.tables.now in omega (arith, leb-true k.clock last_reading (clock-bound k c.requires))
 
 pub join-requires : goal.join-requires
 join-requires c =

@@ -13,11 +13,11 @@ loop-task-init c = (record { spread = c.requires.spread; table = refl; waits = r
 pub release-requires : goal.release-requires
 release-requires c =
     let l = c.loop-task in
-    let h = away c.in-Some.task (table l.tasks) (sleepers (sleeping l.waits)) (sleepers (sleeping c.pop-due.new.self)) l.invariant.0.spread c.in-Some.ensures.laws.counts in
+    let h = away c.in-Some.task (table l.tasks) (sleepers (sleeping l.waits)) (sleepers (sleeping c.pop_due.new.self)) l.invariant.0.spread c.in-Some.ensures.laws.counts in
     record { within = h.within; nowhere = h.nowhere }
 
-pub overflow-add-count : goal.overflow-add-count
-overflow-add-count c =
+pub overflow_add-count : goal.overflow_add-count
+overflow_add-count c =
     let a = c.args in let l = c.loop-task in
     let f = due-few a.reading a.waits.now in
     let p = c.requires.few in
@@ -30,12 +30,12 @@ pub loop-task-preserved : goal.loop-task-preserved
 loop-task-preserved c =
     let a = c.args in let l = c.loop-task in let k = c.in-Some.ensures in (
       releasing-more a.reading (table a.tasks.now) (sleeping a.waits.now) (table l.tasks) (sleeping l.waits) l.count l.invariant.0
-          (sleeping c.pop-due.new.self) c.in-Some.task (table c.release.new.self) k.laws c.release.ensures,
+          (sleeping c.pop_due.new.self) c.in-Some.task (table c.release.new.self) k.laws c.release.ensures,
       k.room ∙ l.invariant.1,
     )
 
 pub returns : goal.returns
 returns c =
-    let a = c.args in let l = c.loop-task in let k = c.in-default.ensures in
-    let h = releasing-done a.reading (table a.tasks.now) (sleeping a.waits.now) (table l.tasks) (sleeping l.waits) l.count l.invariant.0 (sleeping c.pop-due.new.self) k.laws k.first in
+    let a = c.args in let l = c.loop-task in let k = c.in_default.ensures in
+    let h = releasing-done a.reading (table a.tasks.now) (sleeping a.waits.now) (table l.tasks) (sleeping l.waits) l.count l.invariant.0 (sleeping c.pop_due.new.self) k.laws k.first in
     record { table = h.0; waits = h.1; count = h.2; room = k.room ∙ l.invariant.1 }

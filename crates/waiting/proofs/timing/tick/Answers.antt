@@ -5,14 +5,14 @@ use Rattle.rules.specs.Clock.{last_reading}
 use Rattle.tables.proofs.Stands.{clock-bound, spread-clock}
 use Rattle.waiting.proofs.timing.tick.Goals as goal
 
-pub returns-then-tables-ge-LAST-READING : goal.returns-then-tables-ge-LAST-READING
-returns-then-tables-ge-LAST-READING c =
+pub returns-then-tables-ge-LAST_READING : goal.returns-then-tables-ge-LAST_READING
+returns-then-tables-ge-LAST_READING c =
     let k = c.args.tables.now in
     let e : eqb k.clock last_reading ≡ true = eq-eqb k.clock last_reading (omega (arith, leb-true k.clock last_reading (clock-bound k c.requires))) in
     search rules
 
-pub release-due-count-requires : goal.release-due-count-requires
-release-due-count-requires c =
+pub release_due-count-requires : goal.release_due-count-requires
+release_due-count-requires c =
     let k = c.args.tables.now in
     let f = c.requires.0 in
     let r = c.requires.1.0 in

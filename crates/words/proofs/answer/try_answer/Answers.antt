@@ -14,20 +14,20 @@ returns-then-out-size c =
     let a = answer_with (λ t. t.now) c.args.answer in
     record { told = sym (told-full (answer_words a) c.args.out.now _ (sym (answer-size a)) c.if-out-size.true); leaves = search rules }
 
-pub put-text-requires : goal.put-text-requires
-put-text-requires c =
+pub put_text-requires : goal.put_text-requires
+put_text-requires c =
     let n = length-text c.args.answer.text.now in
-    let k = laid-length 0 (word_bytes c.word-of.result) c.args.out.now (omega arith) in
-    omega (arith, ap length c.put-word.ensures)
+    let k = laid-length 0 (word_bytes c.word_of.result) c.args.out.now (omega arith) in
+    omega (arith, ap length c.put_word.ensures)
 
 pub returns : goal.returns
 returns c =
     let a = answer_with (λ t. t.now) c.args.answer in
     let out = c.args.out.now in
     let size = answer-size a in
-    let m = laid_more 0 4 (word_bytes c.word-of.result) (text_words a.text) out refl (omega arith) in
-    let first : word_bytes c.word-of.result ≡ reply_word a.running a.reply = c.word-of.ensures in
+    let m = laid_more 0 4 (word_bytes c.word_of.result) (text_words a.text) out refl (omega arith) in
+    let first : word_bytes c.word_of.result ≡ reply_word a.running a.reply = c.word_of.ensures in
     record {
       told = sym (told-size (answer_words a) out _ (sym size) c.if-out-size.false);
-      leaves = c.put-text.ensures ∙ ap (laid 4 (text_words a.text)) c.put-word.ensures ∙ sym m ∙ ap (λ w. laid 0 (w ++ text_words a.text) out) first ∙ ap (λ n. answer_words a ++ drop n out) size;
+      leaves = c.put_text.ensures ∙ ap (laid 4 (text_words a.text)) c.put_word.ensures ∙ sym m ∙ ap (λ w. laid 0 (w ++ text_words a.text) out) first ∙ ap (λ n. answer_words a ++ drop n out) size;
     }

@@ -1,7 +1,7 @@
 use Rattle.std.proofs.Common.{ℕ, List}
 use Rattle.words.proofs.read.read_create.Goals as goal
 
-pub returns-in-default-read-number : goal.returns-in-default-read-number
-returns-in-default-read-number g c start message more e =
+pub returns-in_default-read_number : goal.returns-in_default-read_number
+returns-in_default-read_number g c start message more e =
     let first = c.in-Some.ensures in
-    c.in-default-read-number.ensures message more (cc)
+    c.in_default-read_number.ensures message more (cc)

@@ -6,6 +6,6 @@ pub returns-in-len4-up : goal.returns-in-len4-up
 returns-in-len4-up c =
     let xs : List ℕ = c.args.bytes.now in
     let h : 4 ≤ length xs = search rules in
-    let w = word_of (get_or xs 0 0) (get_or xs 1 0) (get_or xs 2 0) (get_or xs 3 0) c.from-be-bytes.result (search rules) (search rules) (search rules) (search rules) c.from-be-bytes.ensures in
+    let w = word_of (get_or xs 0 0) (get_or xs 1 0) (get_or xs 2 0) (get_or xs 3 0) c.from_be_bytes.result (search rules) (search rules) (search rules) (search rules) c.from_be_bytes.ensures in
     let s = four_and_rest xs h in
     cc

@@ -4,4 +4,4 @@ use Rattle.words.proofs.word.word.Goals as goal
 
 pub returns : goal.returns
 returns c =
-    word_of (c.args.kind * 16 + c.args.sub) c.args.high c.args.middle c.args.low c.from-be-bytes.result (search rules) (search rules) (search rules) (search rules) c.from-be-bytes.ensures
+    word_of (c.args.kind * 16 + c.args.sub) c.args.high c.args.middle c.args.low c.from_be_bytes.result (search rules) (search rules) (search rules) (search rules) c.from_be_bytes.ensures

@@ -5,7 +5,7 @@ use Rattle.words.proofs.write.put_text.Goals as goal
 
 pub loop-rest-preserved : goal.loop-rest-preserved
 loop-rest-preserved c =
-    laid_word c.loop-rest.at c.word.result c.loop-rest.rest.now c.loop-rest.out c.put-word.new.out _ (search rules) c.word.ensures c.put-word.ensures c.loop-rest.invariant.0 c.loop-rest.invariant.1
+    laid_word c.loop-rest.at c.word.result c.loop-rest.rest.now c.loop-rest.out c.put_word.new.out _ (search rules) c.word.ensures c.put_word.ensures c.loop-rest.invariant.0 c.loop-rest.invariant.1
 
 pub returns-then-rest-lt1 : goal.returns-then-rest-lt1
 returns-then-rest-lt1 c =

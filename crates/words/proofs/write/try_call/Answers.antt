@@ -13,8 +13,8 @@ returns-then-out-size c =
     let size : c.size-size.result ≡ length (call_words call) = c.size-size.ensures ∙ ap words_size c.head-head.ensures ∙ words_size_lem call in
     record { told = sym (told-call call c.args.out.now short ∙ told-full (call_words call) c.args.out.now c.size-size.result size c.if-out-size.true); leaves = search rules }
 
-pub put-call-requires : goal.put-call-requires
-put-call-requires c =
+pub put_call-requires : goal.put_call-requires
+put_call-requires c =
     let call = call_with (λ t. t.now) c.args.call in
     let size : c.size-size.result ≡ length (call_words call) = c.size-size.ensures ∙ ap words_size c.head-head.ensures ∙ words_size_lem call in
     record { short = omega (arith, ap length_in c.head-head.ensures); room = omega arith }
@@ -24,4 +24,4 @@ returns c =
     let call = call_with (λ t. t.now) c.args.call in
     let short : Writable call = omega (arith, ap length_in c.head-head.ensures) in
     let size : c.size-size.result ≡ length (call_words call) = c.size-size.ensures ∙ ap words_size c.head-head.ensures ∙ words_size_lem call in
-    record { told = sym (told-call call c.args.out.now short ∙ told-size (call_words call) c.args.out.now c.size-size.result size c.if-out-size.false); leaves = c.put-call.ensures ∙ ap (λ n. call_words call ++ drop n c.args.out.now) (sym size) }
+    record { told = sym (told-call call c.args.out.now short ∙ told-size (call_words call) c.args.out.now c.size-size.result size c.if-out-size.false); leaves = c.put_call.ensures ∙ ap (λ n. call_words call ++ drop n c.args.out.now) (sym size) }

@@ -8,13 +8,13 @@ use Rattle.needles.proofs.Bytes.{length-bytes}
 use Rattle.needles.proofs.Filled.{BlankFrom, put-blank, put_byte, put_wide}
 use Rattle.needles.proofs.taking.NeedleBankUnit.take.Goals as goal
 
-pub invariant-of-self : goal.invariant-of-self
-invariant-of-self c =
+pub invariant_of-self : goal.invariant_of-self
+invariant_of-self c =
     let rows : List ℕ = c.args.self.now.rows in
     let n : ℕ = c.args.self.now.count in
     let size : length rows ≡ 512 = search rules in
-    let bytes = put_byte rows n c.args.byte c.with-byte.result (omega arith) c.with-byte.ensures in
-    (omega arith, (subst (BlankFrom (n + 1)) (sym bytes) (put-blank (bytes_of rows) n c.args.byte c.args.self.now.blank), (put_wide rows (n / 8) c.with-byte.result (omega arith) c.with-byte.type-inv c.args.self.now.wide, record {})))
+    let bytes = put_byte rows n c.args.byte c.with_byte.result (omega arith) c.with_byte.ensures in
+    (omega arith, (subst (BlankFrom (n + 1)) (sym bytes) (put-blank (bytes_of rows) n c.args.byte c.args.self.now.blank), (put_wide rows (n / 8) c.with_byte.result (omega arith) c.with_byte.type-inv c.args.self.now.wide, record {})))
 
 pub returns : goal.returns
 returns c =
@@ -22,7 +22,7 @@ returns c =
     let n : ℕ = c.args.self.now.count in
     let size : length rows ≡ 512 = search rules in
     let room : 0 < full_room - n = omega arith in
-    let bytes = put_byte rows n c.args.byte c.with-byte.result (omega arith) c.with-byte.ensures in
+    let bytes = put_byte rows n c.args.byte c.with_byte.result (omega arith) c.with_byte.ensures in
     let inside : n < length (bytes_of rows) = omega (arith, length-bytes rows) in
     let more = take_more_set (bytes_of rows) n c.args.byte inside in
     let one = fits_one (full_room - n) c.args.byte room in

@@ -5,5 +5,5 @@ use Rattle.queues.proofs.four.Queues.is_asking.Goals as goal
 
 pub returns : goal.returns
 returns c =
-    any_of_four c.is-asking.ensures c.is-asking-2.ensures c.is-asking-3.ensures c.is-asking-4.ensures
+    any_of_four c.is_asking.ensures c.is_asking-2.ensures c.is_asking-3.ensures c.is_asking-4.ensures
     ∙ sym (at_any c.args.self.now c.args.t)
