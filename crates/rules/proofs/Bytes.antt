@@ -1,6 +1,7 @@
 -- The bytes of a unit: what writes added to taken, and reads to given, through every run.
 use Rattle.std.proofs.Common.{◌≡◌, ℕ, zero, suc, ◌+◌, ◌<◌, ◌≤◌, Bool, true, false, cond, not, ◌&&◌, eqb, List, [], ◌∷◌, ◌++◌, length, get_or, take, drop, set, Some, None, All, count_by, Option, sym, refl, ap, ◌∙◌, subst, ⊎_elim, append_assoc, append-nil, arith}
 use Rattle.std.specs.List.{flat_map}
+use Rattle.std.proofs.lemmas.List.Elements.{All-head, All-tail}
 use Rattle.std.proofs.lemmas.List.{drop_all, drop_at, drop_more, get_or-replicate, get_or-set_other, get_or-set_same, length-append, take-take}
 use Rattle.std.proofs.lemmas.List.Sums.{sum_by-cons}
 use Rattle.std.proofs.lemmas.Bool.{and_parts, cases_Bool, eqb-true, eqb-false, eq-eqb, false≢true, ne_eqb}
@@ -81,7 +82,7 @@ grown_run t u s (x ∷ xs) ok g w =
     let one = grows s g t u w (shape s x) in
     subst (λ (l : List Entry). Grown (task_of s t).bytes (task_of (state_after s l) t).bytes) (sym (during-more t u s x (apply x s) (history s' xs) w))
     (⊎_elim
-    (λ (b : waits_at t u s' ≡ true). grown-then _ _ _ one (grown_run t u s' xs ok.1 (sound-step s x ok.0 g) b))
+    (λ (b : waits_at t u s' ≡ true). grown-then _ _ _ one (grown_run t u s' xs (All-tail Lawful x xs ok) (sound-step s x (All-head Lawful x xs ok) g) b))
     (λ (b : waits_at t u s' ≡ false). subst (λ (l : List Entry). Grown (task_of s t).bytes (task_of (state_after s' l) t).bytes) (sym (during-none t u s' xs b)) one)
     (cases_Bool (waits_at t u s')))
 
@@ -158,7 +159,7 @@ own_run t u s (x ∷ xs) ok g w =
     let c = sum_by-cons (λ e. cond (takes_from t u e) 1 0) (entry s x) (during t u (history s' xs)) in
     subst (λ (l : List Entry). count_by (takes_from t u) l ≤ own t (queue_of s u)) (sym (during-more t u s x (apply x s) (history s' xs) w))
     (⊎_elim
-    (λ (b : waits_at t u s' ≡ true). let r = own_run t u s' xs ok.1 (sound-step s x ok.0 g) b in let z : own_after t u s' ≡ own t (queue_of s' u) = ap (λ (b : Bool). cond b (own t (queue_of s' u)) 0) b in omega arith)
+    (λ (b : waits_at t u s' ≡ true). let r = own_run t u s' xs (All-tail Lawful x xs ok) (sound-step s x (All-head Lawful x xs ok) g) b in let z : own_after t u s' ≡ own t (queue_of s' u) = ap (λ (b : Bool). cond b (own t (queue_of s' u)) 0) b in omega arith)
     (λ (b : waits_at t u s' ≡ false). let z : count_by (takes_from t u) (during t u (history s' xs)) ≡ 0 = ap (count_by (takes_from t u)) (during-none t u s' xs b) in omega arith)
     (cases_Bool (waits_at t u s')))
 
@@ -568,10 +569,10 @@ module _ (u : ℕ) (low : u < 4) where
   }
   account_run s (x ∷ xs) ok g =
       let s' = (apply x s).state in
-      let g' = sound-step s x ok.0 g in
+      let g' = sound-step s x (All-head Lawful x xs ok) g in
       account_step s g (history s' xs) (after s' xs) (shape s x)
-      (record { over = λ t w. during-none t u s' xs w; grown = λ t w. grown_run t u s' xs ok.1 g' w; bound = λ t w. own_run t u s' xs ok.1 g' w })
-      (account_run s' xs ok.1 g')
+      (record { over = λ t w. during-none t u s' xs w; grown = λ t w. grown_run t u s' xs (All-tail Lawful x xs ok) g' w; bound = λ t w. own_run t u s' xs (All-tail Lawful x xs ok) g' w })
+      (account_run s' xs (All-tail Lawful x xs ok) g')
 
 pub units_law : OfEveryRun UnitLaws
 units_law start past h ok = subst (λ (s : State). UnitLaws s past (after s past)) (sym h.is) (λ u low.

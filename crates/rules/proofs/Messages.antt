@@ -1,6 +1,6 @@
 -- The messages of a cell, and who waits there, through every run.
 use Rattle.std.proofs.Common.{◌≡◌, ℕ, ◌+◌, ◌<◌, ◌≤◌, Bool, true, false, cond, not, eqb, ◌≢◌, ◌⊎◌, List, [], ◌∷◌, ◌++◌, length, get_or, set, Some, All, count_by, sym, refl, ap, ◌∙◌, subst, inl, inr, ⊎_elim, append_assoc, append-nil, arith}
-use Rattle.std.proofs.lemmas.List.Elements.{All-push}
+use Rattle.std.proofs.lemmas.List.Elements.{All-nil, All-head, All-tail, All-push}
 use Rattle.std.proofs.lemmas.List.{get_or-replicate, get_or-set_other, get_or-set_same}
 use Rattle.std.proofs.lemmas.List.Sums.{sum_by_push}
 use Rattle.std.proofs.lemmas.Bool.{cases_Bool, cond_both, eqb-true, eqb-false, false≢true}
@@ -261,7 +261,7 @@ cell-more c past s x d k r = record {
   roles = λ t i. ⊎_elim
       (λ (o : (has t (waiting_at s c) ≡ true) × (word_of d.state.cells c ≡ word_of s.cells c)). began_more t c past s x d (r.roles t o.0) o.0 o.1)
       (λ (o : (s.table.running ≡ Some t) × ((is_granted d.answer ≡ true) × (AsReceiver c x d.state ⊎ AsSender c x d.state))).
-      record { early = past; call = Entered s x d; since = []; split = refl; caller = o.0; granted = o.1.0; waited = tt; role = o.1.1 })
+      record { early = past; call = Entered s x d; since = []; split = refl; caller = o.0; granted = o.1.0; waited = All-nil (λ e. has t (waiting_at e.before c) ≡ true); role = o.1.1 })
       (k.whence t i);
   alone = k.alone r.alone;
 }
@@ -270,8 +270,8 @@ cell_run : (c : ℕ) (past : List Entry) (s : State) (xs : List Step) → All La
 cell_run c past s [] ok g r = subst (λ (l : List Entry). CellRun c l s) (sym (append-nil past)) r
 cell_run c past s (x ∷ xs) ok g r =
     subst (λ (l : List Entry). CellRun c l (after s (x ∷ xs))) (append_assoc past (entry s x ∷ []) (history (apply x s).state xs))
-    (cell_run c (past ++ entry s x ∷ []) (apply x s).state xs ok.1 (sound-step s x ok.0 g)
-    (cell-more c past s x (apply x s) (cell-step c s g.cells ok.0 r.alone (shape s x)) r))
+    (cell_run c (past ++ entry s x ∷ []) (apply x s).state xs (All-tail Lawful x xs ok) (sound-step s x (All-head Lawful x xs ok) g)
+    (cell-more c past s x (apply x s) (cell-step c s g.cells (All-head Lawful x xs ok) r.alone (shape s x)) r))
 
 pub cells_law : OfEveryRun CellLaws
 cells_law start past h ok = subst (λ (s : State). CellLaws s past (after s past)) (sym h.is) (λ c l.

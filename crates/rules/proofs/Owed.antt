@@ -1,5 +1,6 @@
 -- How long a wait at a unit lasts: what is owed up to a request falls with every granted service.
 use Rattle.std.proofs.Common.{◌≡◌, ℕ, ◌+◌, ◌<◌, ◌≤◌, Bool, true, false, cond, ◌&&◌, eqb, ◌⊎◌, List, [], ◌∷◌, ◌++◌, length, get_or, set, Some, None, All, count_by, sym, refl, ap, ◌∙◌, subst, inl, inr, ⊎_elim, arith}
+use Rattle.std.proofs.lemmas.List.Elements.{All-nil, All-cons, All-head, All-tail}
 use Rattle.std.proofs.lemmas.List.Sums.{sum_by-cons}
 use Rattle.std.proofs.lemmas.Bool.{and_parts, cases_Bool, eqb-true, eqb-false, eq-eqb, false≢true}
 use Rattle.std.proofs.lemmas.Bool.Decides.{nat_tests}
@@ -105,7 +106,7 @@ wait_run : (t u : ℕ) (s : State) (xs : List Step) → All Lawful xs → Sound 
 wait_run t u s [] ok g w = dues-some s.table t (queue_of s u) (g.requests u) w
 wait_run t u s (x ∷ xs) ok g w =
     let f = falls u t s g (shape s x) w.0 (stays_now t u (apply x s).state xs w.1) in
-    let r = wait_run t u (apply x s).state xs ok.1 (sound-step s x ok.0 g) w.1 in
+    let r = wait_run t u (apply x s).state xs (All-tail Lawful x xs ok) (sound-step s x (All-head Lawful x xs ok) g) w.1 in
     let c = sum_by-cons (λ e. cond (served u e) 1 0) (entry s x) (history (apply x s).state xs) in omega arith
 
 -- who is granted a transfer waits
@@ -133,12 +134,12 @@ asks-waits s h t u y e g = go (sorted-out s h.one_place (shape s (Transfer u y))
     go (inr p) q gr = at p q
 
 pub all-front : (xs ys : List Step) → All Lawful (xs ++ ys) → All Lawful xs
-all-front [] ys a = tt
-all-front (x ∷ xs) ys a = (a.0, all-front xs ys a.1)
+all-front [] ys a = All-nil Lawful
+all-front (x ∷ xs) ys a = All-cons Lawful x xs (All-head Lawful x (xs ++ ys) a) (all-front xs ys (All-tail Lawful x (xs ++ ys) a))
 
 all_back : (xs ys : List Step) → All Lawful (xs ++ ys) → All Lawful ys
 all_back [] ys a = a
-all_back (x ∷ xs) ys a = all_back xs ys a.1
+all_back (x ∷ xs) ys a = all_back xs ys (All-tail Lawful x (xs ++ ys) a)
 
 pub deadlines_law : OfEveryRun Deadlines
 deadlines_law start past h ok early t u y later is runs gr =
@@ -148,6 +149,6 @@ deadlines_law start past h ok early t u y later is runs gr =
     let g' = sound-step s (Transfer u y) tt g in (
       asks-waits s g t u y runs gr,
       λ stays.
-          let r = wait_run t u (apply (Transfer u y) s).state later (all_back early (Transfer u y ∷ later) both).1 g' stays in
+          let r = wait_run t u (apply (Transfer u y) s).state later (All-tail Lawful (Transfer u y) later (all_back early (Transfer u y ∷ later) both)) g' stays in
           let b = dues-owed t (queue_of (apply (Transfer u y) s).state u) in omega arith,
     )

@@ -1,6 +1,7 @@
 -- Each step keeps what holds of every state.
 use Rattle.std.proofs.Common.{◌≡◌, ℕ, zero, suc, ◌+◌, ◌<◌, ◌≤◌, Bool, true, false, cond, ◌&&◌, eqb, ltb, leb, ◌≢◌, List, [], ◌∷◌, ◌++◌, map, length, get_or, take, set, replicate, Some, None, All, Option, sym, refl, ap, ◌∙◌, subst, ⊎_elim, append_assoc, append-nil, arith, length-set}
 use Rattle.std.proofs.lemmas.List.{get_or_past, get_or-set_same, length-append, length-replicate}
+use Rattle.std.proofs.lemmas.List.Elements.{All-nil, All-cons, All-head, All-tail}
 use Rattle.std.proofs.lemmas.Bool.{cases_Bool, cases_lt, cond_both, eqb-true, eqb-false, false≢true, and_from, and_parts, ne_eqb}
 use Rattle.std.proofs.lemmas.Bool.Decides.{nat_tests}
 use Rattle.calls.specs.declared.call.Transfer as transfer
@@ -38,13 +39,17 @@ record Timely (ws : List ClockWait) (now : ℕ) : Type 0 where
   bound : now ≤ last_reading
 
 all-joined : (now t due : ℕ) (ws : List ClockWait) → (now < due) × (due ≤ now + 65535) → All (Due now) ws → All (Due now) (join_clock t due ws)
-all-joined now t due [] p h = (p, tt)
-all-joined now t due (w ∷ ws) p h = cond_both (ltb due w.due) ((record { task = t; due = due }) ∷ w ∷ ws) (w ∷ join_clock t due ws) (All (Due now)) (λ _. (p, h)) (λ _. (h.0, all-joined now t due ws p h.1))
+all-joined now t due [] p h = All-cons (Due now) (record { task = t; due = due }) [] p h
+all-joined now t due (w ∷ ws) p h = cond_both (ltb due w.due) ((record { task = t; due = due }) ∷ w ∷ ws) (w ∷ join_clock t due ws) (All (Due now))
+    (λ _. All-cons (Due now) (record { task = t; due = due }) (w ∷ ws) p h)
+    (λ _. All-cons (Due now) w (join_clock t due ws) (All-head (Due now) w ws h) (all-joined now t due ws p (All-tail (Due now) w ws h)))
 
 all-later : (now : ℕ) (ws : List ClockWait) → All (Due now) ws → All (Due (now + 1)) (later_than (now + 1) ws)
-all-later now [] h = tt
+all-later now [] h = All-nil (Due (now + 1))
 all-later now (w ∷ ws) h = cond_both (leb w.due (now + 1)) (later_than (now + 1) ws) (w ∷ later_than (now + 1) ws) (All (Due (now + 1)))
-    (λ _. all-later now ws h.1) (λ e. let a = h.0.0 in let b = h.0.1 in ((grind (arith, nat_tests), omega arith), all-later now ws h.1))
+    (λ _. all-later now ws (All-tail (Due now) w ws h))
+    (λ e. let a = (All-head (Due now) w ws h).0 in let b = (All-head (Due now) w ws h).1 in
+      All-cons (Due (now + 1)) w (later_than (now + 1) ws) (grind (arith, nat_tests), omega arith) (all-later now ws (All-tail (Due now) w ws h)))
 
 none-later : (x : ClockWait) (now : ℕ) (ws : List ClockWait) → none_above (λ w. w.due) x ws ≡ true → none_above (λ w. w.due) x (later_than now ws) ≡ true
 none-later x now [] h = refl
@@ -57,8 +62,9 @@ sorted-later now (w ∷ ws) h = let p = and_parts (none_above (λ w. w.due) w ws
     cond_both (leb w.due now) (later_than now ws) (w ∷ later_than now ws) (λ l. sorted (λ w. w.due) l ≡ true) (λ _. sorted-later now ws p.1) (λ _. and_from _ _ (none-later w now ws p.0) (sorted-later now ws p.1))
 
 all_left : (now t : ℕ) (ws : List ClockWait) → All (Due now) ws → All (Due now) (without_sleeper t ws)
-all_left now t [] h = tt
-all_left now t (w ∷ ws) h = cond_both (eqb w.task t) ws (w ∷ without_sleeper t ws) (All (Due now)) (λ _. h.1) (λ _. (h.0, all_left now t ws h.1))
+all_left now t [] h = h
+all_left now t (w ∷ ws) h = cond_both (eqb w.task t) ws (w ∷ without_sleeper t ws) (All (Due now)) (λ _. All-tail (Due now) w ws h)
+    (λ _. All-cons (Due now) w (without_sleeper t ws) (All-head (Due now) w ws h) (all_left now t ws (All-tail (Due now) w ws h)))
 
 none_left : (x : ClockWait) (t : ℕ) (ws : List ClockWait) → none_above (λ w. w.due) x ws ≡ true → none_above (λ w. w.due) x (without_sleeper t ws) ≡ true
 none_left x t [] h = refl
@@ -344,7 +350,7 @@ good_run : (ds : List Deed) (s : State) (xs : List Step) → All Lawful xs → G
 good_run ds s [] ok g = subst (λ (l : List Deed). Good l s) (sym (append-nil ds)) g
 good_run ds s (x ∷ xs) ok g =
     subst (λ (l : List Deed). Good l (after s (x ∷ xs))) (append_assoc ds (apply x s).deeds (deeds_of (history (apply x s).state xs)))
-    (good_run (ds ++ (apply x s).deeds) (apply x s).state xs ok.1 (good_step ds s x ok.0 g))
+    (good_run (ds ++ (apply x s).deeds) (apply x s).state xs (All-tail Lawful x xs ok) (good_step ds s x (All-head Lawful x xs ok) g))
 
 -- The start -------------------------------------------------------------------------------------------------------------------
 all-blank : (n k : ℕ) → get_or (replicate n blank) k blank ≡ blank
@@ -376,7 +382,7 @@ good_begin (suc n) timed units h f =
         unique_ids = λ i k e z. absurd (z (ap (λ (x : Task). x.id) (all-blank (suc n) i)));
         ready_sorted = refl;
         clock_sorted = refl;
-        dues = tt;
+        dues = All-nil (Due 0);
         clock = omega arith;
         few_bytes = λ k. let z = ap (λ (x : Task). length x.bytes) (all-blank (suc n) k) in omega arith;
         requests = λ u. empty u;

@@ -1,6 +1,6 @@
 -- All laws of a run together, of a run with one step more, and of each front of a run.
 use Rattle.std.proofs.Common.{◌≡◌, List, [], ◌∷◌, ◌++◌, All, sym, refl, ap, ◌∙◌, subst}
-use Rattle.std.proofs.lemmas.List.Elements.{All-append}
+use Rattle.std.proofs.lemmas.List.Elements.{All-nil, All-cons, All-append}
 use Rattle.rules.specs.State.{State}
 use Rattle.rules.specs.Rules.{Step, apply}
 use Rattle.rules.specs.Runs.{after}
@@ -35,7 +35,7 @@ after-++ s (x ∷ xs) ys = after-++ (apply x s).state xs ys
 -- one step more, from before to now
 pub laws-step : (start : State) (past : List Step) (x : Step) (before now : State) → Lawful x → now ≡ (apply x before).state → Started start → All Lawful past → before ≡ after start past → Laws start (past ++ x ∷ []) now
 laws-step start past x before now ok e h oks r =
-    laws_of start (past ++ x ∷ []) now h (All-append Lawful past (x ∷ []) oks (ok, tt)) (e ∙ ap (λ (s : State). (apply x s).state) r ∙ sym (after-++ start past (x ∷ [])))
+    laws_of start (past ++ x ∷ []) now h (All-append Lawful past (x ∷ []) oks (All-cons Lawful x [] ok (All-nil Lawful))) (e ∙ ap (λ (s : State). (apply x s).state) r ∙ sym (after-++ start past (x ∷ [])))
 
 -- a list of steps more, and each front of it
 pub laws_play : (start : State) (past more : List Step) (before now : State) → All Lawful more → now ≡ after before more → Started start → All Lawful past → before ≡ after start past → Played start past more now

@@ -3,9 +3,9 @@ use Rattle.rules.proofs.wrong_readings.Goals as goal
 
 pub returns : goal.returns
 returns c = record {
-  before-equals = behind-equals;
-  freed-id = freed-id-is-gone;
-  one-receiver = all_receivers_wake;
-  caller-first = released-before-caller;
-  ready-ends-wait = ready-ends-no_wait;
+  before_equals = behind-equals;
+  freed_id = freed-id-is-gone;
+  one_receiver = all_receivers_wake;
+  caller_first = released-before-caller;
+  ready_ends_wait = ready-ends-no_wait;
 }

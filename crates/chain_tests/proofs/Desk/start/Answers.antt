@@ -27,7 +27,7 @@ invariant_of-self-in-Some g c =
     let u = c.link_by_rank.ensures in
     let kept = left-kept ns d.free c.take_first.new.head d.ready c.in-Some.i d.spread t.first t.rest (nexts c.link_by_rank.new.self) c.link_by_rank.new.head _ t.ends u.links in
     let few = spread-still ns d.free c.take_first.new.head d.ready c.in-Some.i d.spread t.first t.rest in
-    (kept.0, (u.links.ends, ((λ k. let a = ap (count k) kept.1 in omega (arith, few k, u.laws.counts k)), record {})))
+    record { frees = kept.0; readies = u.links.ends; spread = λ k. let a = ap (count k) kept.1 in omega (arith, few k, u.laws.counts k) }
 
 pub returns-in-Some : goal.returns-in-Some
 returns-in-Some g c =

@@ -14,7 +14,7 @@ invariant_of-self c =
     let x = c.args.self.now.line in
     let y = c.join.new.self in
     let is = wait_joined c.args.t c.args.due (list (record { due = 0 }) x) (list (record { due = 0 }) y) (c.join.ensures.list (record { due = 0 })) in
-    (joined-by-due c.args.t c.args.due (waits_of x) (waits_of y) is c.args.self.now.sorted, record {})
+    record { sorted = joined-by-due c.args.t c.args.due (waits_of x) (waits_of y) is c.args.self.now.sorted }
 
 pub returns : goal.returns
 returns c =

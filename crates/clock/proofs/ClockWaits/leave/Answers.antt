@@ -9,7 +9,7 @@ invariant_of-self c =
     let x = c.args.self.now.line in
     let y = c.leave.new.self in
     let is = wait_left c.args.t (list (record { due = 0 }) x) (list (record { due = 0 }) y) (c.leave.ensures.list (record { due = 0 })) in
-    (left-by-due c.args.t (waits_of x) (waits_of y) is c.args.self.now.sorted, record {})
+    record { sorted = left-by-due c.args.t (waits_of x) (waits_of y) is c.args.self.now.sorted }
 
 pub returns : goal.returns
 returns c =

@@ -22,7 +22,7 @@ invariant_of-self c =
     let x = c.args.self.now.line in
     let y = c.pop.new.self in
     let is = rest_as (list (record { due = 0 }) x) (list (record { due = 0 }) y) (c.pop.ensures.list (record { due = 0 })) in
-    (rest-by-due (waits_of x) (waits_of y) is c.args.self.now.sorted, record {})
+    record { sorted = rest-by-due (waits_of x) (waits_of y) is c.args.self.now.sorted }
 
 pub returns : goal.returns
 returns c =

@@ -7,7 +7,7 @@ use Rattle.line.proofs.Lines.{waits_end}
 use Rattle.line.proofs.Line.of.Goals as goal
 
 pub invariant_of-result : goal.invariant_of-result
-invariant_of-result g c = (ends-none (nexts c.in_ok-links.links), record {})
+invariant_of-result g c = record { ends = ends-none (nexts c.in_ok-links.links) }
 
 pub returns : goal.returns
 returns g c = record {

@@ -15,7 +15,7 @@ pub invariant_of-self : goal.invariant_of-self
 invariant_of-self c =
     let u = c.put_first in
     let n = freed c.args.self.now c.args.t c.requires.within c.requires.nowhere u.new.self u.new.head u.ensures.records u.ensures.links in
-    (n.ends, (n.placed, record {}))
+    record { ends = n.ends; placed = n.placed }
 
 pub returns : goal.returns
 returns c =

@@ -10,7 +10,7 @@ pub invariant_of-self : goal.invariant_of-self
 invariant_of-self c =
     let u = c.replace in
     let n = replaced c.args.self.now c.args.t c.args.with u.new.self u.ensures.next u.ensures.records in
-    (n.ends, (n.placed, record {}))
+    record { ends = n.ends; placed = n.placed }
 
 pub returns : goal.returns
 returns c = let u = c.replace in (replaced c.args.self.now c.args.t c.args.with u.new.self u.ensures.next u.ensures.records).is

@@ -3,7 +3,7 @@ use Rattle.tasks.proofs.Tables.{stopped}
 use Rattle.tasks.proofs.Tasks.stop.Goals as goal
 
 pub invariant_of-self : goal.invariant_of-self
-invariant_of-self c = let n = stopped c.args.self.now in (n.ends, (n.placed, record {}))
+invariant_of-self c = let n = stopped c.args.self.now in record { ends = n.ends; placed = n.placed }
 
 pub returns : goal.returns
 returns c = (stopped c.args.self.now).is

@@ -6,7 +6,7 @@ pub invariant_of-self : goal.invariant_of-self
 invariant_of-self c =
     let u = c.take_first in
     let n = free-taken c.args.self.now u.new.head u.ensures.ends u.ensures.rest in
-    (n.ends, (n.placed, record {}))
+    record { ends = n.ends; placed = n.placed }
 
 pub returns : goal.returns
 returns c = let u = c.take_first in (free-taken c.args.self.now u.new.head u.ensures.ends u.ensures.rest).is

@@ -6,7 +6,7 @@ pub invariant_of-self : goal.invariant_of-self
 invariant_of-self c =
     let u = c.take_out in
     let n = unsuspended c.args.self.now c.args.t u.new.self u.new.head u.ensures.records u.ensures.links in
-    (n.ends, (n.placed, record {}))
+    record { ends = n.ends; placed = n.placed }
 
 pub returns : goal.returns
 returns c =

@@ -7,4 +7,4 @@ returns-in_default c = unlikely c.args.word (sym c.likely_call.ensures ∙ c.in_
 
 pub returns-else-first_word-word : goal.returns-else-first_word-word
 returns-else-first_word-word c =
-    other_word c.args.word c.first_word.result c.in-Some.call (sym c.likely_call.ensures ∙ c.in-Some.is) c.first_word.ensures c.first_word.type-inv (search rules) c.if-first_word-word.false
+    other_word c.args.word c.first_word.result c.in-Some.call (sym c.likely_call.ensures ∙ c.in-Some.is) c.first_word.ensures c.first_word.type_inv (search rules) c.if-first_word-word.false

@@ -14,7 +14,11 @@ invariant_of-self c =
     let n : ℕ = c.args.self.now.count in
     let size : length rows ≡ 512 = search rules in
     let bytes = put_byte rows n c.args.byte c.with_byte.result (omega arith) c.with_byte.ensures in
-    (omega arith, (subst (BlankFrom (n + 1)) (sym bytes) (put-blank (bytes_of rows) n c.args.byte c.args.self.now.blank), (put_wide rows (n / 8) c.with_byte.result (omega arith) c.with_byte.type-inv c.args.self.now.wide, record {})))
+    record {
+      within = omega arith;
+      blank = subst (BlankFrom (n + 1)) (sym bytes) (put-blank (bytes_of rows) n c.args.byte c.args.self.now.blank);
+      wide = put_wide rows (n / 8) c.with_byte.result (omega arith) c.with_byte.type_inv c.args.self.now.wide;
+    }
 
 pub returns : goal.returns
 returns c =
