@@ -1,4 +1,5 @@
 // Calls on the task that has an id: the live one with it, which may be the caller ittables.
+#![tactic(auto)]
 
 ghost use Rattle.std.specs.Prelude.{◌≡◌, ◌<◌, List, length};
 ghost use Rattle.calls.specs.declared.call.ByIdCall.TheVariants as by;

@@ -1,4 +1,5 @@
 // The 256 cells: a word each, and one line of the tasks that wait at any of them, the one that has waited longest first.
+#![tactic(auto)]
 
 ghost use Rattle.std.specs.Prelude.{true};
 ghost use Rattle.std.proofs.Common.{rules};

@@ -2,6 +2,7 @@
 // One rule serves every kind of record: a record goes behind all of equal or higher rank.
 // Several chains share a table. A chain is known by its head, the number of its first record,
 // and means the list of its numbers in order.
+#![tactic(auto)]
 
 ghost use Rattle.std.specs.Prelude.{◌≡◌, ℕ, ◌-◌, ◌<◌, ◌≤◌, Bool, true, false, ltb, ◌∷◌, length, drop, replicate, IfOk, Some, None, nat_eq, nat_le, nat_lt, slice_index_or, slice_set};
 ghost use Rattle.chain.specs.Chains.{Ends, Relinked, chain, last_before, nexts, records};

@@ -1,4 +1,5 @@
 // What a caller of `chain` looks like, and tests of chains on three kinds of record.
+#![tactic(auto)]
 
 ghost use Rattle.chain.specs.Chains.{Ends, chain, nexts};
 ghost use Rattle.chain.specs.Lists.{count};

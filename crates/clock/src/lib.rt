@@ -1,4 +1,5 @@
 // The waits for due ticks: a line of tasks, the earliest due tick first, and among equals the one that joined first.
+#![tactic(auto)]
 
 ghost use Rattle.chain.specs.Lists.{sorted};
 ghost use Rattle.clock.specs.Waits.{waits_of};

@@ -1,4 +1,5 @@
 // Input files: a program uses the first 65,536 bytes of each.
+#![tactic(auto)]
 
 ghost use Rattle.std.specs.Prelude.{◌≤◌, IfOk, vec_len};
 

@@ -1,5 +1,6 @@
 // Generation: how a monitor shall be. A draft takes answers; sealing turns it into a sealed generation, which takes none
 // and which a monitor starts from.
+#![tactic(auto)]
 
 ghost use Rattle.std.specs.Prelude.{◌≤◌};
 

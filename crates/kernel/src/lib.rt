@@ -1,5 +1,6 @@
 // The monitor but for its units: the tables, of which hold at every moment what holds of every state that a run comes to.
 // Every call but the service goes through one door, which keeps that.
+#![tactic(auto)]
 
 ghost use Rattle.tables.specs.View.{Stands};
 

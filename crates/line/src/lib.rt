@@ -1,5 +1,6 @@
 // A line of waiting tasks: one chain of ranked records in a table of its own, where the record `t` is that of task `t`.
 // It means the list of the tasks on it with their records, in order.
+#![tactic(auto)]
 
 ghost use Rattle.std.specs.Prelude.{◌≡◌, ℕ};
 ghost use Rattle.chain.specs.Chains.{Ends, nexts};

@@ -1,5 +1,6 @@
 // Lists a control program: reads call words from calls.bin in the current folder, prints one line a call (its place,
 // its words, its name and arguments), writes each call back and compares, and ends with totals.
+#![tactic(auto)]
 
 mod show;
 

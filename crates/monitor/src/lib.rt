@@ -1,5 +1,6 @@
 // The task monitor: a kernel over four units of any kind. What it means is a state of the rules; every call promises the
 // state and the answer that the rules give, and the laws over whole runs stand on the call that takes any step.
+#![tactic(auto)]
 
 mod by_id;
 mod own;

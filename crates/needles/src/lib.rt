@@ -1,4 +1,5 @@
 // The needle bank: a unit that keeps the bytes it takes as 512 rows, each one number.
+#![tactic(auto)]
 
 ghost use Rattle.std.specs.Prelude.{◌≡◌, ℕ, ◌^◌, ◌<◌, ◌≤◌, slice_index};
 ghost use Rattle.needles.specs.Rows.{bytes_of};

@@ -1,4 +1,5 @@
 // What the running task does to itself, and the new task that it makes.
+#![tactic(auto)]
 
 ghost use Rattle.calls.specs.declared.call.Call.TheVariants.{Create, Kill, Look, SetLevel, Suspend};
 ghost use Rattle.tables.specs.Promises.{Does};

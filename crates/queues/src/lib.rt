@@ -1,4 +1,5 @@
 // A unit's queue: a line of tasks with their requests, the one that has waited longest first.
+#![tactic(auto)]
 
 ghost use Rattle.std.specs.Prelude.{true};
 ghost use Rattle.std.proofs.Common.{rules};

@@ -1,4 +1,5 @@
 // The text lines of a run's report.
+#![tactic(auto)]
 
 ghost use Rattle.std.specs.Prelude.{◌≡◌, ℕ, ◌+◌, ◌<◌, IfOk, string_bytes};
 ghost use Rattle.calls.specs.Numbers.{stop_number};

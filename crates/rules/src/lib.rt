@@ -1,5 +1,6 @@
 // The rules of the monitor and the laws of its runs. The rules are definitions in specs/; each function here names
 // one law in its contract, which is proved of these definitions. What the monitor promises cites the same definitions.
+#![tactic(auto)]
 
 ghost use Rattle.rules.specs.Laws.{
   CellLaws,

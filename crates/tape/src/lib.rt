@@ -1,5 +1,6 @@
 // The units that work byte by byte on a tape or on keys: reader, punch and console; and the two
 // parts that they are made of.
+#![tactic(auto)]
 
 ghost use Rattle.std.specs.Prelude.{◌≤◌, vec_len};
 ghost use Rattle.unit.specs.Medium.{full_room};

@@ -1,5 +1,6 @@
 // The task table: records on three chains of one table of links, and the running one.
 // Each method does one thing that the rules do to a table, and promises the rule's own name for it.
+#![tactic(auto)]
 
 ghost use Rattle.chain.specs.Chains.{nexts};
 ghost use Rattle.tasks.specs.Parts.{AllEnd, Placed, table_of};

@@ -1,4 +1,5 @@
 // Transfers to and from units, and their service.
+#![tactic(auto)]
 
 mod asking;
 mod service;

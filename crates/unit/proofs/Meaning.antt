@@ -1,5 +1,5 @@
 -- What a take comes to with room and without.
-use Rattle.std.proofs.Common.{◌≡◌, ℕ, zero, suc, ◌+◌, ◌-◌, ◌<◌, false, List, [], ◌∷◌, ◌++◌, take, drop, is_err, Ok, Err, refl, arith}
+use Rattle.std.proofs.Common.{◌≡◌, ℕ, zero, suc, ◌-◌, ◌<◌, false, List, [], ◌∷◌, take, drop, is_err, Ok, Err, refl, arith}
 use Rattle.std.proofs.lemmas.List.{append-nil}
 use Rattle.unit.specs.declared.faults.UnitFault.{UnitFault}
 use Rattle.unit.specs.Medium.{Medium, after_give, after_take, told_at, told_of}

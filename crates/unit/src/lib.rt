@@ -1,4 +1,5 @@
 // What a unit of the cabinet is to the code above it: a trait, its meaning, and its faults.
+#![tactic(auto)]
 
 ghost use Rattle.std.specs.Prelude.{◌≡◌, ℕ, ◌<◌};
 ghost use Rattle.unit.specs.Laws.{EndGivesNone, FullTakesNone, GiveKeepsOrder, GivesFirst, TakeUsesRoom, TakesOne};

@@ -1,4 +1,5 @@
 // Calls that have tasks wait: messages at cells, and the clock.
+#![tactic(auto)]
 
 mod mail;
 mod timing;

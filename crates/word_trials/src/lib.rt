@@ -1,4 +1,5 @@
 // Tests of the word format on examples: the expected words are those of docs/WORDS.md.
+#![tactic(auto)]
 
 #[cfg(test)]
 mod tests {

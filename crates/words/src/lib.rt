@@ -1,4 +1,5 @@
 // The word format: calls and answers written as 32-bit words and read back.
+#![tactic(auto)]
 
 mod answer;
 mod heads;

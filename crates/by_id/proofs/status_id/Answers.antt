@@ -13,5 +13,5 @@ status-requires c = (found c.args.id c.in-Some-find.task (table c.args.tables.no
 
 pub returns : goal.returns
 returns c =
-    let same = λ (us : List Medium). sym (status_told (state us c.args.tables.now) c.in-Some.-caller c.in-Some-find.task c.args.id c.in-Some.ensures c.in-Some-find.ensures) in
+    let same = λ (us : List Medium). sym (status_told (state us c.args.tables.now) c.in-Some._caller c.in-Some-find.task c.args.id c.in-Some.ensures c.in-Some-find.ensures) in
     record { state = λ us. ap (λ (d : Done). d.state) (same us); answer = λ us. ap Ok (c.status.ensures us) ∙ ap (λ (d : Done). d.answer) (same us); room = (refl, refl, refl) }

@@ -1,5 +1,5 @@
 -- The laws of take, from the lemmas about room.
-use Rattle.std.proofs.Common.{◌+◌, [], ◌∷◌, ◌++◌, take, refl, ap, arith, length-append, length-take}
+use Rattle.std.proofs.Common.{[], ◌∷◌, ◌++◌, take, refl, ap, arith, length-append, length-take}
 use Rattle.unit.specs.Medium.{told_at}
 use Rattle.unit.proofs.Meaning.{fits_one, full-same, told-room}
 use Rattle.unit.proofs.take_laws.Goals as goal

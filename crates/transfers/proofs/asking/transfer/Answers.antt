@@ -13,10 +13,10 @@ use Rattle.tables.specs.View.{state}
 use Rattle.tables.proofs.Stands.{caller, left}
 use Rattle.transfers.proofs.Requested.{Is, granted, refused}
 use Rattle.transfers.proofs.asking.transfer.Goals as goal
-use Rattle.transfers.proofs.asking.transfer.Goals.{After-turn, In-err-asked, at·returns-in_err-asked}
+use Rattle.transfers.proofs.asking.transfer.Goals.{After-turn, In_err-asked, at-returns-in_err-asked}
 
 -- the refusal, as the rules see it
-not_done : (c : In-err-asked) (us : List Medium)
+not_done : (c : In_err-asked) (us : List Medium)
     → Is (state us c.args.tables.now) (Err c.in_err-asked.field-0.0) (apply (Transfer c.args.unit (transfer_with (λ t. t.now) c.args.transfer)) (state us c.args.tables.now))
 not_done c us =
     refused c.args.tables.now c.in-Some.caller c.args.unit c.in_ok-at.at (transfer_with (λ t. t.now) c.args.transfer) c.in-Some.ensures c.in_ok-at.ensures us
@@ -24,8 +24,8 @@ not_done c us =
 
 pub returns-in_err-asked : goal.returns-in_err-asked
 returns-in_err-asked c =
-    let p = err_from_is_err_and c.from-residual-in_err-asked.result c.from-residual-in_err-asked.ensures.1 in
-    record { state = λ us. (not_done (at·returns-in_err-asked c).In-err-asked us).state; answer = λ us. p.1 ∙ ap Err p.2 ∙ (not_done (at·returns-in_err-asked c).In-err-asked us).answer; room = (refl, refl, refl) }
+    let p = err_from_is_err_and c.from_residual-in_err-asked.result c.from_residual-in_err-asked.ensures.1 in
+    record { state = λ us. (not_done (at-returns-in_err-asked c).In_err-asked us).state; answer = λ us. p.1 ∙ ap Err p.2 ∙ (not_done (at-returns-in_err-asked c).In_err-asked us).answer; room = (refl, refl, refl) }
 
 pub join-requires : goal.join-requires
 join-requires c =

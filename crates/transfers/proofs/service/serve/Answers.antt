@@ -19,27 +19,27 @@ use Rattle.transfers.proofs.Served.{went_on, was_last}
 use Rattle.tables.proofs.Stands.{First, first_of, kept-over, put}
 use Rattle.transfers.proofs.service.serve.Given as given
 use Rattle.transfers.proofs.service.serve.Goals as goal
-use Rattle.transfers.proofs.service.serve.Goals.{In-Some, After-replace, After-advance, After-finish, at·task-task-requires, at·one_move-moved-requires, at·replace-requires, at·finish-requires, at·returns, at·returns-then-moved}
+use Rattle.transfers.proofs.service.serve.Goals.{In-Some, After-replace, After-advance, After-finish, at-task-task-requires, at-one_move-moved-requires, at-replace-requires, at-finish-requires, at-returns, at-returns-then-moved}
 
 -- the first request
 found : (g : given.Over) (c : In-Some g) → First c.args.tables.now c.args.unit (as_request c.in-Some.first)
 found g c = first_of c.args.tables.now c.requires c.args.unit (as_request c.in-Some.first) c.in-Some.ensures
 
 pub task-task-requires : goal.task-task-requires
-task-task-requires g c = (found g (at·task-task-requires g c).In-Some).within
+task-task-requires g c = (found g (at-task-task-requires g c).In-Some).within
 
 pub one_move-moved-requires : goal.one_move-moved-requires
-one_move-moved-requires g c = subst (λ (x : Task). fits x (as_request c.in-Some.first) ≡ true) (sym c.task-task.ensures) (found g (at·one_move-moved-requires g c).In-Some).fit
+one_move-moved-requires g c = subst (λ (x : Task). fits x (as_request c.in-Some.first) ≡ true) (sym c.task-task.ensures) (found g (at-one_move-moved-requires g c).In-Some).fit
 
 pub replace-requires : goal.replace-requires
-replace-requires g c = (found g (at·replace-requires g c).In-Some).within
+replace-requires g c = (found g (at-replace-requires g c).In-Some).within
 
 pub advance-requires : goal.advance-requires
 advance-requires g c = λ r e. let f = (first_of c.args.tables.now c.requires c.args.unit r (sym e)).fit in grind (arith, nat_tests)
 
 pub finish-requires : goal.finish-requires
 finish-requires g c =
-    let h = put c.args.tables.now c.args.unit (as_request c.in-Some.first) (as_task c.one_move-moved.result.task) (table c.replace.new.self) (found g (at·finish-requires g c).In-Some) c.replace.ensures in
+    let h = put c.args.tables.now c.args.unit (as_request c.in-Some.first) (as_task c.one_move-moved.result.task) (table c.replace.new.self) (found g (at-finish-requires g c).In-Some) c.replace.ensures in
     record { within = h.within; nowhere = h.nowhere }
 
 -- what the move came to
@@ -54,7 +54,7 @@ on : (g : given.Over) (c : After-advance g) (us : List Medium) → length us ≡
 on g c us four =
     went_on c.args.tables.now c.args.unit (g.U.Unit.medium c.args.device.now) us four
     (as_request c.in-Some.first) (as_task c.task-task.result.now) (as_task c.one_move-moved.result.task) (g.U.Unit.medium c.one_move-moved.new.device) c.one_move-moved.result.ends
-    (table c.replace.new.self) c.replace.new.self c.advance.new.self (found g (at·returns g c).In-Some).starts c.task-task.ensures (move-is g (at·returns g c).After-replace) c.replace.ensures
+    (table c.replace.new.self) c.replace.new.self c.advance.new.self (found g (at-returns g c).In-Some).starts c.task-task.ensures (move-is g (at-returns g c).After-replace) c.replace.ensures
     c.if-moved.false refl c.advance.ensures.queues
 
 -- the transfer ends
@@ -64,7 +64,7 @@ last : (g : given.Over) (c : After-finish g) (us : List Medium) → length us �
 last g c us four =
     was_last c.args.tables.now c.args.unit (g.U.Unit.medium c.args.device.now) us four
     (as_request c.in-Some.first) (as_task c.task-task.result.now) (as_task c.one_move-moved.result.task) (g.U.Unit.medium c.one_move-moved.new.device) c.one_move-moved.result.ends
-    (table c.replace.new.self) c.finish.new.tasks c.pop.new.self (found g (at·returns-then-moved g c).In-Some).starts c.task-task.ensures (move-is g (at·returns-then-moved g c).After-replace) c.replace.ensures
+    (table c.replace.new.self) c.finish.new.tasks c.pop.new.self (found g (at-returns-then-moved g c).In-Some).starts c.task-task.ensures (move-is g (at-returns-then-moved g c).After-replace) c.replace.ensures
     c.if-moved.true c.finish.ensures c.pop.ensures.queues
 
 pub returns-then-moved : goal.returns-then-moved
