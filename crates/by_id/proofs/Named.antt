@@ -1,11 +1,11 @@
 -- Calls by id, by the task that is found: the caller itself, or another.
 use Rattle.std.proofs.Common.{◌≡◌, ℕ, Bool, true, false, cond, eqb, ◌≢◌, Some, Option, sym, refl, ap, ◌∙◌, eq-eqb, ne_eqb, eqb-true}
 use Rattle.calls.specs.declared.call.ByIdCall.{ByIdCall}
-use Rattle.calls.specs.declared.call.ByIdCall.TheVariants.{Kill, Ready, Suspend, SetLevel, Status}
+use Rattle.calls.specs.declared.call.ByIdCall.TheVariants.{Kill, Suspend, SetLevel, Status}
 use Rattle.calls.specs.declared.call.Call.TheVariants as call
 use Rattle.rules.specs.State.{State}
 use Rattle.rules.specs.Tables.{lookup}
-use Rattle.rules.specs.Acts.{Done, tell}
+use Rattle.rules.specs.Acts.{tell}
 use Rattle.rules.specs.Records.{by_id, killing, levelling, on_caller, on_other, status_of, suspending}
 use Rattle.rules.specs.Rules.{apply, by_caller}
 

@@ -1,11 +1,11 @@
 -- A line of cell waits, in the words of the rules, through everything that is done to it.
-use Rattle.std.proofs.Common.{◌≡◌, ℕ, ◌+◌, Bool, not, List, [], ◌∷◌, ◌++◌, map, is_some, Some, None, Option, sym, refl, ap, ◌∙◌, arith}
+use Rattle.std.proofs.Common.{◌≡◌, ℕ, ◌+◌, not, List, [], ◌∷◌, ◌++◌, map, is_some, None, Option, sym, refl, ap, ◌∙◌, arith}
 use Rattle.std.proofs.lemmas.Bool.Decides.{nat_tests}
 use Rattle.std.specs.Option.{option_to_list}
 use Rattle.chain.specs.Lists.{count, first, join, rest}
 use Rattle.line.specs.declared.Waiting.{Waiting}
 use Rattle.line.specs.View as line
-use Rattle.line.specs.Waits.{tasks_with, waiting, without_first_with, without_task}
+use Rattle.line.specs.Waits.{tasks_with, without_first_with, without_task}
 use Rattle.line.proofs.Lines.{tasks-waits}
 use Rattle.rules.specs.State as rules
 use Rattle.rules.specs.Mail.{elsewhere, none, tasks_at, without_first_at}

@@ -1,14 +1,14 @@
 -- Clock waits through everything that is done to them.
-use Rattle.std.proofs.Common.{◌≡◌, ℕ, ◌+◌, ◌<◌, ◌≤◌, true, false, leb, List, [], ◌∷◌, ◌++◌, map, length, Some, None, Option, sym, refl, ap, ◌∙◌, subst, arith}
+use Rattle.std.proofs.Common.{◌≡◌, ℕ, ◌+◌, ◌<◌, ◌≤◌, true, List, [], ◌∷◌, ◌++◌, map, Some, None, Option, sym, refl, ap, ◌∙◌, subst, arith}
 use Rattle.std.proofs.lemmas.Bool.Decides.{nat_tests}
 use Rattle.std.specs.Option.{option_to_list}
-use Rattle.chain.specs.Lists.{count, first, has, join, none_above, one, rest, sorted}
+use Rattle.chain.specs.Lists.{count, first, join, none_above, rest, sorted}
 use Rattle.chain.proofs.Orders.{join-sorted}
 use Rattle.line.specs.declared.Waiting.{Waiting}
 use Rattle.line.specs.declared.Line.{Line}
 use Rattle.line.specs.View as line
 use Rattle.line.specs.Waits.{waiting, without_task}
-use Rattle.line.proofs.Lines.{count-joined, join-words, line-few, tasks-waits}
+use Rattle.line.proofs.Lines.{join-words, tasks-waits}
 use Rattle.rules.specs.State as rules
 use Rattle.rules.specs.Clock.{due_at, join_clock, later_than}
 use Rattle.rules.specs.Records.{sleepers, without_sleeper}

@@ -1,10 +1,10 @@
 -- The waiting tasks of a chain, through everything that is done to a line.
-use Rattle.std.proofs.Common.{◌≡◌, ℕ, ◌+◌, ◌<◌, ◌≤◌, true, false, eqb, ◌≢◌, List, [], ◌∷◌, map, length, get_or, set, Some, None, Option, sym, refl, ap, ◌∙◌, subst, arith, length-set, get_or-set_other, get_or-set_same}
-use Rattle.std.proofs.lemmas.List.{get_or-map, get_or_default}
+use Rattle.std.proofs.Common.{◌≡◌, ℕ, ◌+◌, ◌<◌, ◌≤◌, true, false, ◌≢◌, List, [], ◌∷◌, map, length, get_or, set, Some, None, Option, sym, refl, ap, ◌∙◌, subst, arith, get_or-set_other, get_or-set_same}
+use Rattle.std.proofs.lemmas.List.{get_or-map}
 use Rattle.std.proofs.lemmas.Bool.Decides.{nat_tests}
 use Rattle.chain.specs.declared.Links.{Links}
 use Rattle.chain.specs.Lists.{count, first, has, join, one, rank_in, rest, without}
-use Rattle.chain.specs.Chains.{Ends, Relinked, chain, nexts, records}
+use Rattle.chain.specs.Chains.{Ends, chain, nexts, records}
 use Rattle.chain.proofs.Leads.{at-end, chain-cons, chain-few, chain-once}
 use Rattle.chain.proofs.Members.{once}
 use Rattle.chain.proofs.Orders.{join-map}

@@ -1,5 +1,5 @@
 -- One row and its eight bytes, and the bytes of all the rows.
-use Rattle.std.proofs.Common.{◌≡◌, ℕ, zero, suc, ◌+◌, ◌-◌, ◌*◌, ◌/◌, ◌%◌, ◌^◌, ◌<◌, ◌⊎◌, List, [], ◌∷◌, length, get_or, set, refl, ◌∙◌, ⊎_elim, le_of_suc-le-suc, not-suc-le-zero, arith, length-append, length-set}
+use Rattle.std.proofs.Common.{◌≡◌, ℕ, zero, suc, ◌+◌, ◌-◌, ◌*◌, ◌/◌, ◌%◌, ◌^◌, ◌<◌, List, [], ◌∷◌, length, get_or, set, refl, ◌∙◌, ⊎_elim, le_of_suc-le-suc, not-suc-le-zero, arith, length-append, length-set}
 use Rattle.std.proofs.lemmas.List.{set-append_left, set-append_right, get_or-set_same, get_or-set_other, drop_more, drop_all}
 use Rattle.std.proofs.lemmas.Bool.{cases_eq}
 use Rattle.needles.specs.Rows.{row_bytes, bytes_of, row_of}

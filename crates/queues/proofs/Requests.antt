@@ -1,12 +1,11 @@
 -- A line of requests, in the words of the rules, through everything that is done to it.
-use Rattle.std.proofs.Common.{◌≡◌, ℕ, ◌+◌, ◌<◌, List, [], ◌∷◌, map, Some, None, Option, sym, refl, ap, ◌∙◌, subst, arith}
+use Rattle.std.proofs.Common.{◌≡◌, ℕ, ◌+◌, List, [], ◌∷◌, map, Some, None, Option, refl, ap, ◌∙◌, arith}
 use Rattle.std.specs.Option.{option_map}
-use Rattle.chain.specs.Lists.{first, has, join, rest}
+use Rattle.chain.specs.Lists.{first, join, rest}
 use Rattle.line.specs.declared.Waiting.{Waiting}
 use Rattle.line.specs.View as line
-use Rattle.line.specs.Waits.{on_first, waiting}
+use Rattle.line.specs.Waits.{on_first}
 use Rattle.line.proofs.Lines.{join-words, tasks-waits}
-use Rattle.rules.specs.State.{Request}
 use Rattle.rules.specs.Records.{askers}
 use Rattle.rules.specs.Transfers.{enqueue}
 use Rattle.queues.specs.declared.UnitRequest.{UnitRequest}

@@ -49,7 +49,7 @@ all-later now [] h = All-nil (Due (now + 1))
 all-later now (w ∷ ws) h = cond_both (leb w.due (now + 1)) (later_than (now + 1) ws) (w ∷ later_than (now + 1) ws) (All (Due (now + 1)))
     (λ _. all-later now ws (All-tail (Due now) w ws h))
     (λ e. let a = (All-head (Due now) w ws h).0 in let b = (All-head (Due now) w ws h).1 in
-      All-cons (Due (now + 1)) w (later_than (now + 1) ws) (grind (arith, nat_tests), omega arith) (all-later now ws (All-tail (Due now) w ws h)))
+    All-cons (Due (now + 1)) w (later_than (now + 1) ws) (grind (arith, nat_tests), omega arith) (all-later now ws (All-tail (Due now) w ws h)))
 
 none-later : (x : ClockWait) (now : ℕ) (ws : List ClockWait) → none_above (λ w. w.due) x ws ≡ true → none_above (λ w. w.due) x (later_than now ws) ≡ true
 none-later x now [] h = refl

@@ -1,7 +1,7 @@
 -- The trial runs: short runs of the rules from the start over any units, and what they must come to.
 use Rattle.std.specs.Prelude.{◌≡◌, ℕ, true, false, List, [], ◌∷◌, ◌++◌, replicate, Some, None, Ok, Err}
 use Rattle.calls.specs.declared.call.ByIdCall.TheVariants as by
-use Rattle.calls.specs.declared.call.Call.TheVariants.{Create, Kill, Suspend, SetLevel, ById, Send, Wait, Delay, Transfer, Look, Tick, Service}
+use Rattle.calls.specs.declared.call.Call.TheVariants.{Create, Kill, SetLevel, ById, Send, Wait, Delay, Transfer, Look, Tick, Service}
 use Rattle.calls.specs.declared.call.Transfer.TheVariants.{Write, ReadLine}
 use Rattle.calls.specs.declared.call.LookedAt.TheVariants.{Outcome}
 use Rattle.calls.specs.declared.refusal.Refusal.TheVariants.{NoTask, NoFreeRecord, NoSuchId, CellFull, NoMessage, BadLength}

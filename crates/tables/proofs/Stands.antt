@@ -1,5 +1,5 @@
 -- What is kept of every state: how it is read off the tables, and how a step keeps it.
-use Rattle.std.proofs.Common.{◌≡◌, ℕ, ◌+◌, ◌<◌, ◌≤◌, Bool, true, false, cond, leb, List, [], ◌∷◌, length, Some, None, Option, sym, refl, ap, ◌∙◌, subst, arith}
+use Rattle.std.proofs.Common.{◌≡◌, ℕ, ◌+◌, ◌<◌, ◌≤◌, Bool, true, false, leb, List, [], ◌∷◌, length, Some, Option, sym, refl, ap, ◌∙◌, subst, arith}
 use mathlib.Core.Bool.{Bool-set}
 use mathlib.Core.Logic.{∥∥₁_elim, ∥∥₁_map}
 use native.Mathlib.Nat.{ℕ_set}
@@ -8,7 +8,7 @@ use Rattle.std.specs.Option.{option_to_list}
 use Rattle.std.proofs.lemmas.Bool.{and_parts, le-leb}
 use Rattle.std.proofs.lemmas.Bool.Decides.{nat_tests}
 use Rattle.chain.specs.Lists.{count, first, has, one, rest}
-use Rattle.chain.proofs.Members.{count_none, none-count, some-count}
+use Rattle.chain.proofs.Members.{count_none}
 use Rattle.tasks.specs.declared.Tasks.{Tasks}
 use Rattle.tasks.specs.View.{table}
 use Rattle.clock.specs.declared.ClockWaits.{ClockWaits}
@@ -27,13 +27,13 @@ use Rattle.rules.specs.Clock.{last_reading}
 use Rattle.rules.specs.Records.{all_askers, askers, sleepers, waiters}
 use Rattle.rules.specs.Rules.{Step, apply}
 use Rattle.rules.specs.Laws.{Lawful}
-use Rattle.rules.specs.Sound.{OnePlace, Sound, all_fit, fits, in_table, in_waits}
+use Rattle.rules.specs.Sound.{OnePlace, all_fit, fits, in_table, in_waits}
 use Rattle.rules.proofs.Counts.{in_change, one_same, size-change}
 use Rattle.rules.proofs.Waits.{count-one_queue}
 use Rattle.rules.proofs.Sounds.{foremost-step, good_begin, size_step, sound-step}
 use Rattle.tables.specs.Promises.{RoomFor, SameRoom}
 use Rattle.tables.specs.Spread.{Spread}
-use Rattle.tables.specs.View.{Roomy, Standing, Stands, blanks, size, state}
+use Rattle.tables.specs.View.{Standing, Stands, blanks, size, state}
 use Rattle.tables.specs.declared.Tables.{Tables}
 
 -- the state of some parts

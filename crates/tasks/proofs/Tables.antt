@@ -3,7 +3,6 @@ use Rattle.std.proofs.Common.{◌≡◌, ℕ, ◌+◌, ◌-◌, ◌<◌, ◌≤�
 use lib.ListN.{length-map}
 use lib.Seq.{map-set}
 use Rattle.std.proofs.lemmas.List.{get_or-map}
-use Rattle.std.specs.Option.{option_to_list}
 use Rattle.chain.specs.declared.Links.{Links}
 use Rattle.chain.specs.Chains.{Ends, Relinked, chain, nexts, records}
 use Rattle.chain.specs.Lists.{count, first, has, join, rank_in, rest, rising, without}

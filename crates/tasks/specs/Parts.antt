@@ -1,5 +1,5 @@
 -- What the parts of a task table stand for, and what is kept of them. Nothing here names the struct that has these parts.
-use Rattle.std.specs.Prelude.{◌≡◌, ℕ, ◌+◌, ◌≤◌, cond, List, map, length, take, Option, nat_lt}
+use Rattle.std.specs.Prelude.{ℕ, ◌≤◌, cond, List, map, length, take, Option, nat_lt}
 use Rattle.chain.specs.declared.Links.{Links}
 use Rattle.chain.specs.Chains.{Ends, chain, nexts, records}
 use Rattle.rules.specs.Sound.{in_table}

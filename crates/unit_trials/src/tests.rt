@@ -41,7 +41,7 @@ fn tape_of_one(rt: HostRuntime) -> Result<(), Fail> {
     assert_eq!(rt; reader.take(1), Err(UnitFault::Full));
     assert_eq!(rt; reader.give(), Ok(7));
     assert_eq!(rt; reader.give(), Err(UnitFault::End));
-    assert_eq!(rt; reader.given(), &[7]);
+    assert_eq!(rt; reader.given(), [7].as_slice());
     Ok(())
 }
 
@@ -66,16 +66,16 @@ fn punch_filled(rt: HostRuntime) {
     assert_eq!(rt; punch.give(), Err(UnitFault::End));
     let tape = punch.taken();
     assert!(rt; tape.len() == 4_096);
-    assert_eq!(rt; &tape[..3], &[1, 2, 3]);
-    assert_eq!(rt; &tape[4_093..], &[254, 255, 9]);
+    assert_eq!(rt; &tape[..3], [1, 2, 3].as_slice());
+    assert_eq!(rt; &tape[4_093..], [254, 255, 9].as_slice());
 }
 
 #[test]
 fn rows_of_the_bank(rt: HostRuntime) {
     let mut bank = NeedleBank::new();
-    assert_eq!(rt; &bank.rows()[..2], &[0, 0]);
+    assert_eq!(rt; &bank.rows()[..2], [0, 0].as_slice());
     assert_eq!(rt; count_up(&mut bank, 1), 1);
-    assert_eq!(rt; &bank.rows()[..2], &[0x0100_0000_0000_0000, 0]);
+    assert_eq!(rt; &bank.rows()[..2], [0x0100_0000_0000_0000, 0].as_slice());
     assert_eq!(rt; bank.count(), 1);
 }
 
@@ -83,11 +83,11 @@ fn rows_of_the_bank(rt: HostRuntime) {
 fn rows_of_eight_and_nine(rt: HostRuntime) {
     let mut bank = NeedleBank::new();
     assert_eq!(rt; count_up(&mut bank, 8), 8);
-    assert_eq!(rt; &bank.rows()[..2], &[0x0102_0304_0506_0708, 0]);
+    assert_eq!(rt; &bank.rows()[..2], [0x0102_0304_0506_0708, 0].as_slice());
     assert_eq!(rt; bank.take(0xAB), Ok(()));
     assert_eq!(rt;
         &bank.rows()[..2],
-        &[0x0102_0304_0506_0708, 0xAB00_0000_0000_0000]
+        [0x0102_0304_0506_0708, 0xAB00_0000_0000_0000].as_slice()
     );
     assert_eq!(rt; bank.taken_at(8), Some(0xAB));
     assert_eq!(rt; bank.taken_at(9), None);
@@ -100,8 +100,8 @@ fn rows_of_a_full_bank(rt: HostRuntime) {
     assert_eq!(rt; bank.take(1), Err(UnitFault::Full));
     let rows = bank.rows();
     assert_eq!(rt; rows.len(), 512);
-    assert_eq!(rt; &rows[..2], &[0x0102_0304_0506_0708, 0x090A_0B0C_0D0E_0F10]);
-    assert_eq!(rt; &rows[511..], &[0xF9FA_FBFC_FDFE_FF00]);
+    assert_eq!(rt; &rows[..2], [0x0102_0304_0506_0708, 0x090A_0B0C_0D0E_0F10].as_slice());
+    assert_eq!(rt; &rows[511..], [0xF9FA_FBFC_FDFE_FF00].as_slice());
 }
 
 #[test]
@@ -111,8 +111,8 @@ fn console_both_ways(rt: HostRuntime) -> Result<(), Fail> {
     assert_eq!(rt; console.take(65), Ok(()));
     assert_eq!(rt; console.give(), Ok(7));
     assert_eq!(rt; console.give(), Err(UnitFault::End));
-    assert_eq!(rt; console.given(), &[0, 7]);
-    assert_eq!(rt; console.taken(), &[65]);
+    assert_eq!(rt; console.given(), [0, 7].as_slice());
+    assert_eq!(rt; console.taken(), [65].as_slice());
     Ok(())
 }
 
@@ -129,8 +129,8 @@ fn copy_to_the_end(rt: HostRuntime) -> Result<(), Fail> {
     let mut reader = Reader::new(marked(rt.alloc(), 3, 2)?);
     let mut punch = Punch::new();
     assert_eq!(rt; copy(&mut reader, &mut punch), None);
-    assert_eq!(rt; reader.given(), &[0, 0, 7]);
-    assert_eq!(rt; punch.taken(), &[0, 0, 7]);
+    assert_eq!(rt; reader.given(), [0, 0, 7].as_slice());
+    assert_eq!(rt; punch.taken(), [0, 0, 7].as_slice());
     Ok(())
 }
 

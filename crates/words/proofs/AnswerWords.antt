@@ -1,10 +1,10 @@
 -- The words of an answer: its reply, and the text that follows.
-use Rattle.std.proofs.Common.{◌≡◌, ℕ, ◌+◌, ◌*◌, ◌/◌, ◌%◌, ◌<◌, ◌≤◌, Bool, true, false, cond, eqb, ◌⊎◌, List, [], ◌∷◌, ◌++◌, length, Some, None, Ok, Err, Option, Result, sym, refl, ap, ◌∙◌, inl, inr, ⊎_elim, append_assoc, arith}
+use Rattle.std.proofs.Common.{◌≡◌, ℕ, ◌+◌, ◌*◌, ◌/◌, false, cond, eqb, ◌⊎◌, List, [], ◌∷◌, ◌++◌, length, Some, None, Ok, Err, Option, Result, sym, refl, ap, ◌∙◌, ⊎_elim, append_assoc, arith}
 use Rattle.calls.specs.Numbers.{refusal_number}
 use Rattle.calls.specs.declared.refusal.Refusal.{Refusal}
 use Rattle.calls.specs.declared.refusal.Refusal.TheVariants.{NoTask, NoFreeRecord, IdInUse, NoSuchId, AtUnit, CellFull, NoMessage, NoTicks, NoSuchUnit, BadLength, NoLineEnd, NoRequest, ClockAtEnd, Unlawful, NoClock, OutOfRange, NoRoom}
-use Rattle.std.proofs.lemmas.List.{length-append, nil_from_length}
-use Rattle.words.specs.Answers.{answer_words, Lawful, Named, OneAnswer, ReadsAnswer, reply_size, reply_word, running_byte, starts_data}
+use Rattle.std.proofs.lemmas.List.{length-append}
+use Rattle.words.specs.Answers.{answer_words, Lawful, Named, OneAnswer, reply_size, reply_word, running_byte, starts_data}
 use Rattle.words.specs.Format.{text_words}
 use Rattle.words.specs.Heads.{word_bytes}
 use Rattle.words.specs.declared.parts.Answer.{Answer}

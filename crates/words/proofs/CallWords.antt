@@ -1,5 +1,5 @@
 -- The words of a call: its first word, and what its data words tell.
-use Rattle.std.proofs.Common.{◌≡◌, ℕ, ◌+◌, ◌*◌, ◌/◌, ◌%◌, ◌<◌, ◌≤◌, true, false, ◌⊎◌, List, [], ◌∷◌, ◌++◌, length, get_or, take, drop, Some, None, Ok, Err, Option, sym, refl, ap, ◌∙◌, inl, inr, ⊎_elim, append_assoc, arith, MatchOption}
+use Rattle.std.proofs.Common.{◌≡◌, ℕ, ◌/◌, ◌%◌, ◌<◌, ◌≤◌, ◌⊎◌, List, [], ◌∷◌, ◌++◌, length, Some, None, Ok, Err, Option, sym, refl, ap, ◌∙◌, inl, inr, ⊎_elim, append_assoc, arith, MatchOption}
 use Rattle.calls.specs.Calls.{call_with}
 use Rattle.calls.specs.declared.call.Call.{Call}
 use Rattle.calls.specs.declared.call.Call.TheVariants.{Create, Kill, Suspend, SetLevel, ById, Send, Wait, Delay, Transfer, Look, Tick, Service}
@@ -7,8 +7,8 @@ use Rattle.calls.specs.declared.call.Transfer.TheVariants as moves
 use Rattle.std.proofs.lemmas.List.{drop_at, length-append, nil_from_length, take_at}
 use Rattle.calls.specs.declared.refusal.Refusal.TheVariants.{NoRoom}
 use Rattle.std.proofs.lemmas.Bool.Decides.{nat_tests}
-use Rattle.words.specs.Format.{call_words, data_word, data_words, first_word, length_in, text_words}
-use Rattle.words.specs.Heads.{bare, word_bytes}
+use Rattle.words.specs.Format.{call_words, data_word, data_words, first_word, text_words}
+use Rattle.words.specs.Heads.{bare}
 use Rattle.words.specs.Reading.{CreateRead, OneCall, ReadsCall, Shorter, Writable}
 use Rattle.words.specs.Text.{text_length}
 use Rattle.words.specs.Writing.{told_call, told_writing, words_size}

@@ -1,5 +1,5 @@
 -- Words as four bytes and as numbers.
-use Rattle.std.proofs.Common.{◌≡◌, ℕ, ◌+◌, ◌-◌, ◌*◌, ◌/◌, ◌%◌, ◌<◌, ◌≤◌, true, eqb, List, [], ◌∷◌, ◌++◌, length, get_or, take, drop, sym, refl, ap, ◌∙◌, arith}
+use Rattle.std.proofs.Common.{◌≡◌, ℕ, ◌+◌, ◌-◌, ◌*◌, ◌/◌, ◌%◌, ◌<◌, ◌≤◌, true, eqb, List, [], ◌∷◌, length, get_or, take, drop, sym, arith}
 use Rattle.std.proofs.lemmas.List.{drop_more, nil_from_length, take_rest}
 use Rattle.std.proofs.lemmas.Bool.{eqb-true}
 use Rattle.words.specs.Heads.{word_bytes}

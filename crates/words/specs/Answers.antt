@@ -1,5 +1,5 @@
 -- The words of an answer, and what reading from the front of a list of bytes finds.
-use Rattle.std.specs.Prelude.{◌≡◌, ℕ, ◌+◌, ◌%◌, ◌≤◌, Bool, false, ◌⊎◌, List, [], ◌∷◌, ◌++◌, length, Some, None, Ok, Err, Option, Result, ◌≢◌, nat_lt}
+use Rattle.std.specs.Prelude.{◌≡◌, ℕ, ◌%◌, Bool, false, ◌⊎◌, List, [], ◌∷◌, ◌++◌, length, Some, None, Ok, Err, Option, Result, ◌≢◌, nat_lt}
 use Rattle.calls.specs.Numbers.{refusal_number}
 use Rattle.calls.specs.declared.refusal.Refusal.{Refusal}
 use Rattle.words.specs.Format.{text_words, word_with}

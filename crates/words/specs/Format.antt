@@ -1,6 +1,6 @@
 -- The word format: the words of each call and of each answer, as bytes.
 -- A word is 32 bits, stored as four bytes, the highest first.
-use Rattle.std.specs.Prelude.{ℕ, ◌+◌, ◌*◌, ◌/◌, ◌%◌, Bool, cond, List, [], ◌∷◌, ◌++◌, length, take, drop}
+use Rattle.std.specs.Prelude.{ℕ, ◌+◌, ◌*◌, ◌/◌, ◌%◌, cond, List, [], ◌∷◌, ◌++◌, length}
 use Rattle.calls.specs.Calls.{call_with}
 use Rattle.calls.specs.declared.call.ByIdCall.{ByIdCall}
 use Rattle.calls.specs.declared.call.ByIdCall.TheVariants as order

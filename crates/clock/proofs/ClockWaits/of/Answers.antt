@@ -1,5 +1,5 @@
 -- A line with nobody on it stands by due tick.
-use Rattle.std.proofs.Common.{sym, ap, ◌∙◌}
+use Rattle.std.proofs.Common.{ap}
 use Rattle.chain.specs.Lists.{sorted}
 use Rattle.line.specs.View.{list}
 use Rattle.rules.specs.State as rules

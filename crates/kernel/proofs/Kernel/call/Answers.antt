@@ -9,4 +9,4 @@ pub invariant_of-self : goal.invariant_of-self
 invariant_of-self c =
     let k = c.args.self.now in
     let e = c.make.ensures in
-    (kept k.tables c.make.new.tables (call_with (λ _. []) c.args.call) e.lawful (e.does.state blanks) e.does.room k.stands, tt)
+    record { stands = kept k.tables c.make.new.tables (call_with (λ _. []) c.args.call) e.lawful (e.does.state blanks) e.does.room k.stands }

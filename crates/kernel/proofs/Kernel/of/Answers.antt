@@ -6,4 +6,4 @@ use Rattle.kernel.proofs.Kernel.of.Goals as goal
 pub invariant_of-result : goal.invariant_of-result
 invariant_of-result c =
     let h = c.in_ok-tables.ensures in
-    (begun c.args.n c.args.timed c.in_ok-tables.tables c.requires.some c.requires.few (h.begins blanks) h.room, tt)
+    record { stands = begun c.args.n c.args.timed c.in_ok-tables.tables c.requires.some c.requires.few (h.begins blanks) h.room }

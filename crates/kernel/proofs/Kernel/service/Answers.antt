@@ -12,4 +12,4 @@ invariant_of-self g c =
     let u = number_of c.args.unit in
     let m = g.U.Unit.medium c.args.device.now in
     let e = c.serve.ensures in
-    (kept-over k.tables c.serve.new.tables (Service u) (set blanks u m) (set blanks u (g.U.Unit.medium c.serve.new.device)) (length-set blanks u m) tt (e.state blanks refl) e.room k.stands, tt)
+    record { stands = kept-over k.tables c.serve.new.tables (Service u) (set blanks u m) (set blanks u (g.U.Unit.medium c.serve.new.device)) (length-set blanks u m) tt (e.state blanks refl) e.room k.stands }

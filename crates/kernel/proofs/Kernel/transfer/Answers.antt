@@ -9,4 +9,4 @@ pub invariant_of-self : goal.invariant_of-self
 invariant_of-self c =
     let k = c.args.self.now in
     let e = c.transfer.ensures in
-    (kept k.tables c.transfer.new.tables (Transfer c.args.unit (transfer_with (λ t. t.now) c.args.asked)) tt (e.state blanks) e.room k.stands, tt)
+    record { stands = kept k.tables c.transfer.new.tables (Transfer c.args.unit (transfer_with (λ t. t.now) c.args.asked)) tt (e.state blanks) e.room k.stands }

@@ -1,5 +1,5 @@
 -- The walk for a key, link by link.
-use Rattle.std.proofs.Common.{sym, ap, ◌∙◌}
+use Rattle.std.proofs.Common.{sym, ◌∙◌}
 use Rattle.chain.specs.Chains.{nexts}
 use Rattle.chain.proofs.Leads.{first-within, next_ends, next_less}
 use Rattle.line.proofs.Lines.{with_end, with_go, with_here}

@@ -1,9 +1,7 @@
 -- The new parts stand for the table at the start.
-use Rattle.std.proofs.Common.{◌≡◌, length, Some, None, ap, ◌∙◌}
+use Rattle.std.proofs.Common.{length, None, ap, ◌∙◌}
 use lib.ListN.{length-replicate}
-use Rattle.chain.specs.Chains.{nexts}
-use Rattle.rules.specs.State.{begin_table}
-use Rattle.tasks.proofs.Tables.{Stand, begun}
+use Rattle.tasks.proofs.Tables.{begun}
 use Rattle.tasks.proofs.Tasks.of.Goals as goal
 
 pub invariant_of-result : goal.invariant_of-result

@@ -1,5 +1,5 @@
 -- The running task is nowhere as soon as it runs no longer.
-use Rattle.std.proofs.Common.{◌<◌, length, sym, ap, ◌∙◌, subst}
+use Rattle.std.proofs.Common.{◌<◌, length, sym, ◌∙◌, subst}
 use Rattle.rules.specs.Tables.{stop}
 use Rattle.tasks.specs.View.{table}
 use Rattle.tasks.proofs.Places.{tasks-stop}

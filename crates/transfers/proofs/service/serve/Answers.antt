@@ -1,5 +1,5 @@
 -- The first request is one that its task can have; what the move makes of it is what the rules make of it.
-use Rattle.std.proofs.Common.{◌≡◌, true, List, length, set, Ok, sym, refl, subst, arith, length-set}
+use Rattle.std.proofs.Common.{◌≡◌, true, List, length, set, Ok, sym, refl, subst, arith}
 use Rattle.std.proofs.lemmas.Bool.Decides.{nat_tests}
 use Rattle.calls.specs.declared.call.Call.TheVariants.{Service}
 use Rattle.queues.specs.Number.{number_of}
@@ -16,7 +16,7 @@ use Rattle.tables.specs.View.{state}
 use Rattle.transfers.proofs.Requested.{Is}
 use Rattle.moving.proofs.Services.{Moves}
 use Rattle.transfers.proofs.Served.{went_on, was_last}
-use Rattle.tables.proofs.Stands.{First, first_of, kept-over, put}
+use Rattle.tables.proofs.Stands.{First, first_of, put}
 use Rattle.transfers.proofs.service.serve.Given as given
 use Rattle.transfers.proofs.service.serve.Goals as goal
 use Rattle.transfers.proofs.service.serve.Goals.{In-Some, After-replace, After-advance, After-finish, at-task-task-requires, at-one_move-moved-requires, at-replace-requires, at-finish-requires, at-returns, at-returns-then-moved}

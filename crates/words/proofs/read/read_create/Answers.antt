@@ -1,4 +1,3 @@
-use Rattle.std.proofs.Common.{ℕ, List}
 use Rattle.words.proofs.read.read_create.Goals as goal
 
 pub returns-in_default-read_number : goal.returns-in_default-read_number

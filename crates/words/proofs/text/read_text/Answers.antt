@@ -1,4 +1,4 @@
-use Rattle.std.proofs.Common.{◌≡◌, ℕ, ◌+◌, ◌<◌, ◌≤◌, length, sym, ◌∙◌, arith, rules}
+use Rattle.std.proofs.Common.{◌≡◌, ℕ, sym, arith}
 use Rattle.std.proofs.lemmas.List.{length-set}
 use Rattle.words.proofs.Texts.{read_more, rest_more, rest_some}
 use Rattle.words.proofs.text.read_text.Goals as goal

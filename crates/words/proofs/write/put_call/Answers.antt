@@ -1,4 +1,4 @@
-use Rattle.std.proofs.Common.{◌≡◌, ◌++◌, length, sym, refl, ap, ◌∙◌, arith, rules}
+use Rattle.std.proofs.Common.{◌≡◌, ◌++◌, length, sym, refl, ap, ◌∙◌, arith}
 use Rattle.calls.specs.Calls.{call_with}
 use Rattle.words.specs.Format.{call_words, data_words, first_word}
 use Rattle.words.specs.Heads.{word_bytes}

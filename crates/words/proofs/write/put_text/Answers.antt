@@ -1,4 +1,4 @@
-use Rattle.std.proofs.Common.{◌≡◌, ◌≤◌, length, sym, ap, ◌∙◌, arith, rules}
+use Rattle.std.proofs.Common.{sym, ap, ◌∙◌, rules}
 use Rattle.words.specs.Writing.{laid}
 use Rattle.words.proofs.Laid.{laid_none, laid_word, none_last}
 use Rattle.words.proofs.write.put_text.Goals as goal

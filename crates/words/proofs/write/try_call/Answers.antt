@@ -1,4 +1,4 @@
-use Rattle.std.proofs.Common.{◌≡◌, ◌≤◌, ◌++◌, length, drop, sym, refl, ap, ◌∙◌, arith, rules}
+use Rattle.std.proofs.Common.{◌≡◌, ◌++◌, length, drop, sym, ap, ◌∙◌, arith, rules}
 use Rattle.calls.specs.Calls.{call_with}
 use Rattle.words.specs.Format.{call_words, length_in}
 use Rattle.words.specs.Reading.{Writable}
