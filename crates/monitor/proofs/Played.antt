@@ -1,6 +1,6 @@
 -- Steps made one after the other.
 use Rattle.std.proofs.Common.{◌≡◌, ℕ, ◌+◌, ◌<◌, List, [], ◌∷◌, ◌++◌, length, get_or, take, All, Result, sym, refl, ap, ◌∙◌, subst, Bor}
-use Rattle.std.proofs.lemmas.List.Elements.{All-append}
+use Rattle.std.proofs.lemmas.List.Elements.{All-nil, All-push}
 use Rattle.std.proofs.lemmas.List.{map-append, take_more}
 use Rattle.calls.specs.Calls.{call_with}
 use Rattle.calls.specs.declared.call.Call.{Call}
@@ -32,11 +32,11 @@ one_more calls i d l start s s' told r h m ok =
     subst (λ (ys : List Step). MadeSo start ys s' (told ++ r ∷ [])) more (record {
       state = m.state ∙ ap (λ (z : State). (apply x z).state) h.state ∙ sym (after-++ start xs (x ∷ []));
       answers = ap (λ (a : Result ℕ Refusal). told ++ a ∷ []) (m.answer ∙ ap (λ (z : State). (apply x z).answer) h.state) ∙ ap (λ (rs : List (Result ℕ Refusal)). rs ++ (apply x (after start xs)).answer ∷ []) h.answers ∙ sym (answers-++ start xs (x ∷ []));
-      lawful = All-append Lawful xs (x ∷ []) h.lawful (ok, tt);
+      lawful = All-push Lawful xs x h.lawful ok;
     })
 
 -- the run from a start, with the laws of it and of each front of it
 pub performed : (start s last : State) (steps : List Step) (told : List (Result ℕ Refusal)) → Started start → s ≡ start → last ≡ after s steps → told ≡ answers s steps → All Lawful steps → Performed start steps last told
 performed start s last steps told h is e a ok =
     let e' : last ≡ after start steps = e ∙ ap (λ (z : State). after z steps) is in
-    record { state = e'; answers = a ∙ ap (λ (z : State). answers z steps) is; laws = laws_play start [] steps start last ok e' h tt refl }
+    record { state = e'; answers = a ∙ ap (λ (z : State). answers z steps) is; laws = laws_play start [] steps start last ok e' h (All-nil Lawful) refl }

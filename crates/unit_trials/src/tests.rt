@@ -100,7 +100,10 @@ fn rows_of_a_full_bank(rt: HostRuntime) {
     assert_eq!(rt; bank.take(1), Err(UnitFault::Full));
     let rows = bank.rows();
     assert_eq!(rt; rows.len(), 512);
-    assert_eq!(rt; &rows[..2], [0x0102_0304_0506_0708, 0x090A_0B0C_0D0E_0F10].as_slice());
+    assert_eq!(rt;
+        &rows[..2],
+        [0x0102_0304_0506_0708, 0x090A_0B0C_0D0E_0F10].as_slice()
+    );
     assert_eq!(rt; &rows[511..], [0xF9FA_FBFC_FDFE_FF00].as_slice());
 }
 
