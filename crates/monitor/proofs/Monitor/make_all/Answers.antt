@@ -2,7 +2,6 @@
 use Rattle.std.proofs.Common.{◌≡◌, ℕ, List, [], ◌∷◌, ◌++◌, take, vec_items, Result, ap, ◌∙◌, subst, append_assoc, arith}
 use Rattle.std.proofs.lemmas.List.{take_all}
 use Rattle.calls.specs.declared.refusal.Refusal.{Refusal}
-use Rattle.rules.specs.Rules.{Step}
 use Rattle.monitor.specs.Promises.{steps_of}
 use Rattle.monitor.specs.View.{state}
 use Rattle.monitor.proofs.Played.{MadeSo, one_more}
