@@ -20,12 +20,14 @@ IMPORT = re.compile(r"^\s*(?:pub )?(?:ghost )?use (Rattle\.std\.|mathlib|borrow|
 DECLARED = re.compile(r"^\s*(?:abbrev |unfoldable )?(?:pub )?(?:abbrev |unfoldable )?(record |data )?([^\s(:]+)(?: \(.*)? :(?: (.*))?$")
 GOAL = re.compile(r"^(goal|given|source|rules)\.")
 LIBRARY = "ap subst sym".split()
-# a lemma that would have its function's name, by the crates that cite it
+# a lemma that would have its function's name, by the crates that cite it, and the name that it gets
 LEMMAS = {
+    "by-caller": (["rules"], "by-caller"),
     "goes_on": (["words"], "goes_on_lem"),
     "line_read": (["rules"], "line_read_lem"),
     "long-delay": (["rules"], "long_delay_lem"),
     "of-unit": (["rules"], "of_unit_lem"),
+    "told-call": (["words"], "told-call"),
     "unit-of": (["transfers"], "unit_of_lem"),
     "with-units": (["tables", "own", "by_id", "waiting", "moving", "transfers", "kernel", "monitor"], "with_units_lem"),
     "words_size": (["words"], "words_size_lem"),

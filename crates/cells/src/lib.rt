@@ -4,7 +4,7 @@
 ghost use Rattle.std.specs.Prelude.{true};
 ghost use Rattle.std.proofs.Common.{rules};
 
-mod calls;
+mod operations;
 
 use chain::Ranked;
 use line::{Keyed, Line};

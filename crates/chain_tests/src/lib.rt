@@ -5,7 +5,7 @@ ghost use Rattle.chain.specs.Chains.{Ends, chain, nexts};
 ghost use Rattle.chain.specs.Lists.{count};
 ghost use Rattle.std.specs.Prelude.{◌≡◌, ℕ, ◌+◌, ◌≤◌};
 
-mod calls;
+mod operations;
 #[cfg(test)]
 mod tests;
 

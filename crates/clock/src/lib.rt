@@ -6,7 +6,7 @@ ghost use Rattle.clock.specs.Waits.{waits_of};
 ghost use Rattle.std.specs.Prelude.{◌≡◌, true, nat_le};
 ghost use Rattle.std.proofs.Common.{rules};
 
-mod calls;
+mod operations;
 
 use chain::Ranked;
 use line::Line;

@@ -5,7 +5,7 @@
 ghost use Rattle.std.specs.Prelude.{◌≡◌, ℕ};
 ghost use Rattle.chain.specs.Chains.{Ends, nexts};
 
-mod calls;
+mod operations;
 
 use chain::Links;
 

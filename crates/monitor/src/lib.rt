@@ -2,12 +2,12 @@
 // state and the answer that the rules give, and the laws over whole runs stand on the call that takes any step.
 #![tactic(auto)]
 
-mod by_id;
-mod own;
+mod asking;
+mod caller;
+mod ids;
 mod reads;
 mod start;
 mod steps;
-mod transfers;
 mod waits;
 
 use calls::Refusal;

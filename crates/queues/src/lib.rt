@@ -4,9 +4,9 @@
 ghost use Rattle.std.specs.Prelude.{true};
 ghost use Rattle.std.proofs.Common.{rules};
 
-mod calls;
 mod four;
 mod number;
+mod operations;
 mod units;
 
 use chain::Ranked;
