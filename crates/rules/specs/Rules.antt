@@ -35,13 +35,14 @@ bytes_read (Some kind.WriteLine) bytes = []
 bytes_read (Some kind.Read) bytes = bytes
 bytes_read (Some kind.ReadLine) bytes = bytes
 
-abbrev pub text_of : Option ℕ → State → List ℕ
-text_of None s = []
-text_of (Some t) s = bytes_read (task_of s t).kind (task_of s t).bytes
+-- the same of a record, if there is one
+abbrev pub read_text : Option ℕ → State → List ℕ
+read_text None s = []
+read_text (Some t) s = bytes_read (task_of s t).kind (task_of s t).bytes
 
 -- the same of the running task
 abbrev pub outcome_text : State → List ℕ
-outcome_text s = text_of s.table.running s
+outcome_text s = read_text s.table.running s
 
 -- a task call needs a running task, the caller
 abbrev pub by_caller : Option ℕ → (ℕ → Done) → State → Done
