@@ -2,7 +2,7 @@
 use Rattle.std.proofs.Common.{◌≡◌, ℕ, zero, suc, ◌+◌, ◌-◌, ◌*◌, ◌/◌, ◌%◌, ◌^◌, ◌<◌, ◌≤◌, List, [], ◌∷◌, length, get_or, take, drop, set, replicate, Some, sym, refl, ap, ◌∙◌, ⊎_elim, le_of_suc-le-suc, not-suc-le-zero, arith, length-take}
 use Rattle.std.proofs.lemmas.List.{drop_more, get_or_append_left, get_or-append_right, get_or_past, get_or-replicate, get_or-set_same, get_or-set_other, get_or-take, length-replicate, replicate-append-replicate}
 use Rattle.std.proofs.lemmas.Bool.{cases_eq, cases_lt}
-use Rattle.unit.specs.Copying.{first_of}
+use Rattle.unit.specs.Copying.{first_byte}
 use Rattle.needles.specs.Rows.{row_bytes, bytes_of, row_of}
 use Rattle.needles.proofs.Bytes.{bytes-set, length-bytes, length_row}
 
@@ -84,10 +84,10 @@ row_is rows n k h blank wide =
     omega (arith, number_of_bytes (get_or rows k 0) (wide k), first, at 1 (omega arith), at 2 (omega arith), at 3 (omega arith), at 4 (omega arith), at 5 (omega arith), at 6 (omega arith), at 7 (omega arith))
 
 -- the byte taken at a place
-pub byte_taken : (rows : List ℕ) (n at : ℕ) → at < n → n ≤ length rows * 8 → first_of (drop at (take n (bytes_of rows))) ≡ Some (get_or (row_bytes (get_or rows (at / 8) 0)) (at % 8) 0)
+pub byte_taken : (rows : List ℕ) (n at : ℕ) → at < n → n ≤ length rows * 8 → first_byte (drop at (take n (bytes_of rows))) ≡ Some (get_or (row_bytes (get_or rows (at / 8) 0)) (at % 8) 0)
 byte_taken rows n at h size =
     let xs : List ℕ = bytes_of rows in
     let place : at / 8 * 8 + at % 8 ≡ at = omega arith in
     let inside : at < length (take n xs) = omega (arith, length-take n xs, length-bytes rows) in
     let first : get_or (take n xs) at 0 ≡ get_or (row_bytes (get_or rows (at / 8) 0)) (at % 8) 0 = get_or-take n xs at 0 h ∙ (ap (λ m. get_or xs m 0) (sym place) ∙ byte_of_row rows (at / 8) (at % 8) (omega arith) (omega arith)) in
-    ap first_of (drop_more (take n xs) at 0 inside) ∙ ap (λ b. Some b) first
+    ap first_byte (drop_more (take n xs) at 0 inside) ∙ ap (λ b. Some b) first

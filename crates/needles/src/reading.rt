@@ -3,7 +3,7 @@
 ghost use Rattle.std.specs.Prelude.{◌≡◌, ℕ, ◌<◌, [], length, drop, slice_index};
 ghost use Rattle.needles.specs.Bank.{bank_of, needle_code};
 ghost use Rattle.needles.specs.Rows.{row_count, row_of};
-ghost use Rattle.unit.specs.Copying.{first_of};
+ghost use Rattle.unit.specs.Copying.{first_byte};
 ghost use Rattle.unit.specs.Medium.{fresh, full_room};
 
 use crate::{NeedleBank, ROWS};
@@ -36,7 +36,7 @@ impl NeedleBank {
 
     // The byte taken at a place, if there is one.
     pub fn taken_at(&self, at: usize) -> Option<u8>
-        ensures { result ≡ first_of (drop at (bank_of self.now).taken) }
+        ensures { result ≡ first_byte (drop at (bank_of self.now).taken) }
     {
         if at >= self.count {
             return None;

@@ -166,8 +166,8 @@ starts_with : (r : Request) (q : List Request) → Some r ≡ first q → q ≡ 
 starts_with r [] e = let z : ◌≡◌ {A = ℕ} 0 1 = cc in absurd (omega arith)
 starts_with r (x ∷ xs) e = let z : x ≡ r = cc in ap (λ (i : Request). i ∷ xs) z
 
-pub first_of : (k : Tables) → Stands k → (unit : UnitNumber) (r : Request) → Some r ≡ first (queues.queue_at unit k.queues) → First k unit r
-first_of k st unit r e =
+pub first_request : (k : Tables) → Stands k → (unit : UnitNumber) (r : Request) → Some r ≡ first (queues.queue_at unit k.queues) → First k unit r
+first_request k st unit r e =
     let q = queues.queue_at unit k.queues in
     let s : q ≡ r ∷ rest q = starts_with r q e in
     let o = one_place k st r.task in

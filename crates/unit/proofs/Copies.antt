@@ -2,7 +2,7 @@
 use Rattle.std.proofs.Common.{◌≡◌, ℕ, zero, suc, ◌+◌, ◌-◌, false, List, [], ◌∷◌, ◌++◌, length, take, drop, is_err, None, Ok, Err, refl, ap, add-one, arith}
 use Rattle.std.proofs.lemmas.List.{append-nil, append_assoc}
 use Rattle.unit.specs.Medium.{Medium, after_give, after_take, told_give, told_take}
-use Rattle.unit.specs.Copying.{copied, first_of}
+use Rattle.unit.specs.Copying.{copied, first_byte}
 use Rattle.std.specs.Option.{option_to_list}
 use Rattle.unit.specs.declared.faults.UnitFault.{UnitFault}
 use Rattle.unit.proofs.Meaning.{fits_one, told-end, told-first, told-no-full}
@@ -36,12 +36,12 @@ ended m n m1 e told source =
     let room : n.room - 0 ≡ n.room = omega arith in
     rw (source, coming) (simp (take_none, drop-none, append-nil, room))
 
-one-first : (r : ℕ) (cs : List ℕ) → take (suc r) cs ≡ take r cs ++ option_to_list (first_of (drop r cs))
+one-first : (r : ℕ) (cs : List ℕ) → take (suc r) cs ≡ take r cs ++ option_to_list (first_byte (drop r cs))
 one-first zero [] = refl
 one-first zero (c ∷ cs) = refl
 one-first (suc r) [] = refl
 one-first (suc r) (c ∷ cs) = ap (λ bs. c ∷ bs) (one-first r cs)
 
 -- one byte more than there is room for is the byte left over
-pub one_more : (r : ℕ) (cs : List ℕ) → take (r + 1) cs ≡ take r cs ++ option_to_list (first_of (drop r cs))
+pub one_more : (r : ℕ) (cs : List ℕ) → take (r + 1) cs ≡ take r cs ++ option_to_list (first_byte (drop r cs))
 one_more r cs = rw add-one (one-first r cs)

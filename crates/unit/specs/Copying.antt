@@ -12,9 +12,9 @@ abbrev pub after_gives : ℕ → Medium → Medium
 after_gives n m = record { taken = m.taken; given = m.given ++ take n m.coming; coming = drop n m.coming; room = m.room; code = m.code }
 
 -- the first of some bytes, if there is one
-abbrev pub first_of : List ℕ → Option ℕ
-first_of [] = None
-first_of (b ∷ bs) = Some b
+abbrev pub first_byte : List ℕ → Option ℕ
+first_byte [] = None
+first_byte (b ∷ bs) = Some b
 
 -- both units after a copy, and the byte that was given and found no room
 pub record Copied : Type 0 where
@@ -24,7 +24,7 @@ pub record Copied : Type 0 where
 
 -- the target is handed what is to come until it tells full, and the source has then given one byte more than there was room for
 abbrev pub copied : Medium → Medium → Copied
-copied from to = record { source = after_gives (to.room + 1) from; target = after_takes from.coming to; left_over = first_of (drop to.room from.coming) }
+copied from to = record { source = after_gives (to.room + 1) from; target = after_takes from.coming to; left_over = first_byte (drop to.room from.coming) }
 
 -- no byte is lost in a copy: the source gave what the target took, and behind it the byte left over
 abbrev pub NoneLost : Type 0

@@ -16,14 +16,14 @@ use Rattle.tables.specs.View.{state}
 use Rattle.transfers.proofs.Requested.{Is}
 use Rattle.moving.proofs.Services.{Moves}
 use Rattle.transfers.proofs.Served.{went_on, was_last}
-use Rattle.tables.proofs.Stands.{First, first_of, put}
+use Rattle.tables.proofs.Stands.{First, first_request, put}
 use Rattle.transfers.proofs.service.serve.Given as given
 use Rattle.transfers.proofs.service.serve.Goals as goal
 use Rattle.transfers.proofs.service.serve.Goals.{In-Some, After-replace, After-advance, After-finish, at-task-task-requires, at-one_move-moved-requires, at-replace-requires, at-finish-requires, at-returns, at-returns-then-moved}
 
 -- the first request
 found : (g : given.Over) (c : In-Some g) → First c.args.tables.now c.args.unit (as_request c.in-Some.first)
-found g c = first_of c.args.tables.now c.requires c.args.unit (as_request c.in-Some.first) c.in-Some.ensures
+found g c = first_request c.args.tables.now c.requires c.args.unit (as_request c.in-Some.first) c.in-Some.ensures
 
 pub task-task-requires : goal.task-task-requires
 task-task-requires g c = (found g (at-task-task-requires g c).In-Some).within
@@ -35,7 +35,7 @@ pub replace-requires : goal.replace-requires
 replace-requires g c = (found g (at-replace-requires g c).In-Some).within
 
 pub advance-requires : goal.advance-requires
-advance-requires g c = λ r e. let f = (first_of c.args.tables.now c.requires c.args.unit r (sym e)).fit in grind (arith, nat_tests)
+advance-requires g c = λ r e. let f = (first_request c.args.tables.now c.requires c.args.unit r (sym e)).fit in grind (arith, nat_tests)
 
 pub finish-requires : goal.finish-requires
 finish-requires g c =
