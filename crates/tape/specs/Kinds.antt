@@ -1,7 +1,7 @@
 -- What each kind of tape unit means.
 use Rattle.std.specs.Prelude.{ℕ, []}
 use Rattle.unit.specs.Medium.{Medium}
-use Rattle.tape.specs.Parts.{coming_of, given_of, room_of, taken_of}
+use Rattle.tape.specs.Parts.{coming_of, given_of, room_of}
 use Rattle.tape.specs.declared.reader.Reader.{Reader}
 use Rattle.tape.specs.declared.punch.Punch.{Punch}
 use Rattle.tape.specs.declared.console.Console.{Console}
@@ -26,8 +26,8 @@ reader_of r = record { taken = []; given = given_of r.tape; coming = coming_of r
 
 -- the punch gives nothing
 abbrev pub punch_of : Punch → Medium
-punch_of p = record { taken = taken_of p.tape; given = []; coming = []; room = room_of p.tape; code = punch_code }
+punch_of p = record { taken = p.tape; given = []; coming = []; room = room_of p.tape; code = punch_code }
 
 -- the console takes what it prints and gives what is keyed
 abbrev pub console_of : Console → Medium
-console_of c = record { taken = taken_of c.paper; given = given_of c.keys; coming = coming_of c.keys; room = room_of c.paper; code = console_code }
+console_of c = record { taken = c.paper; given = given_of c.keys; coming = coming_of c.keys; room = room_of c.paper; code = console_code }

@@ -5,13 +5,15 @@ ghost use Rattle.tape.specs.Kinds.{console_code, console_of, longest};
 ghost use Rattle.unit.specs.Medium.{fresh, full_room};
 ghost use Rattle.std.proofs.Common.{rules};
 
-use crate::{LONGEST, Store, Supply};
-use unit::{Unit, UnitFault};
+use crate::keeping::keep;
+use crate::{LONGEST, Supply};
+use buffer::Buffer;
+use unit::{ROOM, Unit, UnitFault};
 
 #[derive(Drop)]
 pub struct Console {
     keys: Supply,
-    paper: Store,
+    paper: Buffer<ROOM>,
 }
 
 impl Console {
@@ -21,14 +23,14 @@ impl Console {
     {
         Console {
             keys: Supply::new(keys, LONGEST),
-            paper: Store::new(),
+            paper: Buffer::new(),
         }
     }
 
     pub fn taken(&self) -> &[u8]
         ensures { result.now ≡ (console_of self.now).taken }
     {
-        self.paper.taken()
+        self.paper.as_slice()
     }
 
     pub fn given(&self) -> &[u8]
@@ -54,7 +56,7 @@ impl Unit for Console {
     }
 
     fn take(&mut self, byte: u8) -> Result<(), UnitFault> {
-        self.paper.keep(byte)
+        keep(&mut self.paper, byte)
     }
 
     fn give(&mut self) -> Result<u8, UnitFault> {

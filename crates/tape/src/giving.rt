@@ -9,11 +9,10 @@ use unit::UnitFault;
 
 impl Supply {
     // A supply of the first `limit` of the bytes; the memory is the caller's.
-    pub fn new(bytes: Vec<u8>, limit: usize) -> Supply
+    pub fn new(mut bytes: Vec<u8>, limit: usize) -> Supply
         ensures given { given_of result ≡ [] }
         ensures coming { coming_of result ≡ take limit bytes.items }
     {
-        let mut bytes = bytes;
         bytes.truncate(limit);
         Supply { bytes, at: 0 }
     }
@@ -23,10 +22,7 @@ impl Supply {
         ensures coming { coming_of self.new ≡ drop 1 (coming_of self.old) }
         ensures told { result ≡ told_of (coming_of self.old) }
     {
-        if self.at >= self.bytes.len() {
-            return Err(UnitFault::End);
-        }
-        let byte = self.bytes[self.at];
+        let byte = *self.bytes.get(self.at).ok_or(UnitFault::End)?;
         self.at += 1;
         Ok(byte)
     }

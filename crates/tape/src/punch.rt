@@ -5,12 +5,13 @@ ghost use Rattle.unit.specs.Medium.{fresh, full_room};
 ghost use Rattle.std.specs.Prelude.{◌≡◌, []};
 ghost use Rattle.std.proofs.Common.{rules};
 
-use crate::Store;
-use unit::{Unit, UnitFault};
+use crate::keeping::keep;
+use buffer::Buffer;
+use unit::{ROOM, Unit, UnitFault};
 
 #[derive(Drop)]
 pub struct Punch {
-    tape: Store,
+    tape: Buffer<ROOM>,
 }
 
 impl Punch {
@@ -18,13 +19,13 @@ impl Punch {
     pub fn new() -> Punch
         ensures { punch_of result ≡ fresh [] full_room punch_code }
     {
-        Punch { tape: Store::new() }
+        Punch { tape: Buffer::new() }
     }
 
     pub fn taken(&self) -> &[u8]
         ensures { result.now ≡ (punch_of self.now).taken }
     {
-        self.tape.taken()
+        self.tape.as_slice()
     }
 
     pub fn given(&self) -> &[u8]
@@ -50,7 +51,7 @@ impl Unit for Punch {
     }
 
     fn take(&mut self, byte: u8) -> Result<(), UnitFault> {
-        self.tape.keep(byte)
+        keep(&mut self.tape, byte)
     }
 
     fn give(&mut self) -> Result<u8, UnitFault> {

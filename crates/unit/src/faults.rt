@@ -8,20 +8,17 @@ ghost use Rattle.std.specs.Prelude.{◌≡◌};
 #[derive(Clone, Copy, PartialEq, Eq, Debug)]
 pub enum UnitFault {
     // it has no room left
-    Full,
+    Full = 2,
     // it has no byte to come
-    End,
+    End = 3,
 }
 
-impl UnitFault {
-    // The number by which an outcome tells the fault.
-    pub fn cause(&self) -> u8
-        ensures { result ≡ cause_of self.now }
-    {
-        match self {
-            UnitFault::Full => 2,
-            UnitFault::End => 3,
-        }
+// The number by which an outcome tells the fault: its cause.
+impl From<UnitFault> for u8 {
+    ghost from_gives = { λ e r. r ≡ cause_of e };
+
+    fn from(fault: UnitFault) -> u8 {
+        fault as u8
     }
 }
 
@@ -45,9 +42,6 @@ impl TransferFault {
     pub fn after(self, moved: u8) -> TransferFault
         ensures { result ≡ fault_after moved self.fault }
     {
-        TransferFault {
-            fault: self.fault,
-            moved,
-        }
+        TransferFault { moved, ..self }
     }
 }

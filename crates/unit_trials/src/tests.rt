@@ -149,8 +149,8 @@ fn copy_until_full(rt: HostRuntime) -> Result<(), Fail> {
 
 #[test]
 fn faults_keep_their_cause(rt: HostRuntime) {
-    assert_eq!(rt; UnitFault::Full.cause(), 2);
-    assert_eq!(rt; UnitFault::End.cause(), 3);
+    assert_eq!(rt; u8::from(UnitFault::Full), 2);
+    assert_eq!(rt; u8::from(UnitFault::End), 3);
     let fault = TransferFault::from(UnitFault::End);
     assert_eq!(rt;
         fault,

@@ -1,0 +1,2 @@
+-- The lemma that a new buffer takes.
+pub mod Texts
