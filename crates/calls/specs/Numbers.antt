@@ -1,12 +1,12 @@
 -- The numbers by which refusals, stops and outcomes are told.
-use Rattle.std.specs.Prelude.{ℕ, ◌+◌, ◌*◌}
+use Rattle.std.specs.Prelude.{ℕ, ◌+◌, ◌*◌, Some, None, Ok, Err, Option, Result}
 use Rattle.calls.specs.declared.refusal.Refusal.{Refusal}
 use Rattle.calls.specs.declared.refusal.Refusal.TheVariants.{NoTask, NoFreeRecord, IdInUse, NoSuchId, AtUnit, CellFull, NoMessage, NoTicks, NoSuchUnit, BadLength, NoLineEnd, NoRequest, ClockAtEnd, Unlawful, NoClock, OutOfRange, NoRoom}
 use Rattle.calls.specs.declared.stop.Stop.{Stop}
 use Rattle.calls.specs.declared.stop.Stop.TheVariants as stop
 use Rattle.calls.specs.declared.outcome.Outcome.{Outcome}
-use Rattle.calls.specs.declared.outcome.Outcome.TheVariants.{NoneYet, Complete, Failed}
 use Rattle.unit.specs.Faults.{cause_of}
+use Rattle.unit.specs.declared.faults.TransferFault.{TransferFault}
 
 -- each refusal's number
 abbrev pub refusal_number : Refusal → ℕ
@@ -42,8 +42,16 @@ packing cause device moved = cause * 8192 + device * 128 + moved
 abbrev pub complete_cause : ℕ
 complete_cause = 1
 
--- an outcome's number: 0 while there is none
+-- the number of an end at a device: of the bytes moved, or of the fault
+abbrev pub end_number : ℕ → Result ℕ TransferFault → ℕ
+end_number device (Ok moved) = packing complete_cause device moved
+end_number device (Err fault) = packing (cause_of fault.fault) device fault.moved
+
+-- an outcome's number
 abbrev pub outcome_number : Outcome → ℕ
-outcome_number NoneYet = 0
-outcome_number (Complete device moved) = packing complete_cause device moved
-outcome_number (Failed device fault) = packing (cause_of fault.fault) device fault.moved
+outcome_number o = end_number o.device o.end
+
+-- the number that is told of a task's outcome: 0 while there is none
+abbrev pub number_told : Option Outcome → ℕ
+number_told None = 0
+number_told (Some o) = outcome_number o

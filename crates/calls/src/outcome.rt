@@ -5,32 +5,32 @@ ghost use Rattle.std.specs.Prelude.{◌≡◌, ◌<◌};
 
 use unit::TransferFault;
 
+// How a transfer ended. A task whose latest transfer has not ended has none.
 #[derive(Clone, Copy, PartialEq, Eq, Debug)]
-pub enum Outcome {
-    // No transfer has ended since the latest one was asked for.
-    NoneYet,
-    // All bytes that were asked for, or a line, were moved.
-    Complete { device: u8, moved: u8 },
-    // The unit had a fault, which is kept whole with the bytes moved before it.
-    Failed { device: u8, fault: TransferFault },
+pub struct Outcome {
+    // The unit's device code.
+    pub device: u8,
+    // The bytes moved, where all bytes that were asked for, or a line, were moved; else the unit's fault, which is kept
+    // whole with the bytes moved before it.
+    pub end: Result<u8, TransferFault>,
 }
 
-// An outcome's number: the cause in bits 15 to 13, the device code in bits 12 to 7, the bytes moved in bits 6 to 0.
+// The cause in bits 15 to 13, the device code in bits 12 to 7, the bytes moved in bits 6 to 0.
 fn packed(cause: u8, device: u8, moved: u8) -> u16
     requires { cause < 4 }
     ensures { result ≡ packing cause device moved }
 {
-    (cause as u16) * 8192 + (device as u16) * 128 + moved as u16
+    u16::from(cause) * 8192 + u16::from(device) * 128 + u16::from(moved)
 }
 
-impl Outcome {
-    pub fn number(&self) -> u16
-        ensures { result ≡ outcome_number self.now }
-    {
-        match self {
-            Outcome::NoneYet => 0,
-            Outcome::Complete { device, moved } => packed(1, *device, *moved),
-            Outcome::Failed { device, fault } => packed(fault.fault.cause(), *device, fault.moved),
+// An outcome's number.
+impl From<Outcome> for u16 {
+    ghost from_gives = { λ o r. r ≡ outcome_number o };
+
+    fn from(outcome: Outcome) -> u16 {
+        match outcome.end {
+            Ok(moved) => packed(1, outcome.device, moved),
+            Err(fault) => packed(fault.fault.into(), outcome.device, fault.moved),
         }
     }
 }

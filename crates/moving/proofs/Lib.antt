@@ -1,3 +1,2 @@
--- The lemmas that the proofs share.
-pub mod Texts
-pub mod Services
+-- The lemma that a text's line takes.
+pub mod Lines

@@ -2,38 +2,39 @@
 
 ghost use Rattle.calls.specs.Calls.{transfer_with};
 ghost use Rattle.calls.specs.declared.call.Transfer.TheVariants.{Write, WriteLine};
-ghost use Rattle.moving.specs.Wanted.{as_wanted, laid, wanted, wants};
+ghost use Rattle.moving.specs.Wanted.{as_wanted, told_size, wanted, wants};
 ghost use Rattle.rules.specs.State.{with_transfer};
-ghost use Rattle.rules.specs.Transfers.{bad_length};
 ghost use Rattle.tasks.specs.Parts.{as_task};
 ghost use Rattle.std.specs.Prelude.{◌≡◌, []};
 
-use crate::parts::{Asked, Laid};
-use crate::text::{by_count, by_line};
-use calls::{Outcome, Refusal, Transfer, TransferKind};
+use crate::parts::Asked;
+use crate::text::by_line;
+use buffer::Buffer;
+use calls::{Refusal, Transfer, TransferKind};
 use tasks::Task;
 
 // The most bytes that a transfer moves.
 const LONGEST: u8 = 80;
 
-// Whether no transfer can be of that many bytes.
-fn is_bad_length(size: usize) -> bool
-    ensures { result ≡ bad_length size }
+// The size of a transfer of so many bytes, or that no transfer can be of so many.
+fn sized(length: usize) -> Result<u8, Refusal>
+    ensures { result ≡ told_size length }
 {
-    size == 0 || size > LONGEST as usize
+    if length == 0 || length > LONGEST as usize {
+        return Err(Refusal::BadLength);
+    }
+    Ok(length as u8)
 }
 
 // A write of a text by count.
 fn write(text: &[u8]) -> Result<Asked, Refusal>
     ensures { wants result ≡ wanted (Write text.now) }
 {
-    if is_bad_length(text.len()) {
-        return Err(Refusal::BadLength);
-    }
+    let size = sized(text.len())?;
     Ok(Asked {
         kind: TransferKind::Write,
-        laid: by_count(text),
-        size: text.len() as u8,
+        bytes: Buffer::of(text),
+        size,
     })
 }
 
@@ -41,16 +42,12 @@ fn write(text: &[u8]) -> Result<Asked, Refusal>
 fn write_line(text: &[u8]) -> Result<Asked, Refusal>
     ensures { wants result ≡ wanted (WriteLine text.now) }
 {
-    if is_bad_length(text.len()) {
-        return Err(Refusal::BadLength);
-    }
-    let Some(laid) = by_line(text) else {
-        return Err(Refusal::NoLineEnd);
-    };
+    sized(text.len())?;
+    let bytes = by_line(text).ok_or(Refusal::NoLineEnd)?;
     Ok(Asked {
         kind: TransferKind::WriteLine,
-        laid,
-        size: laid.size as u8,
+        bytes,
+        size: bytes.len() as u8,
     })
 }
 
@@ -60,10 +57,7 @@ fn read(kind: TransferKind, size: u8) -> Asked
 {
     Asked {
         kind,
-        laid: Laid {
-            bytes: [0; 80],
-            size: 0,
-        },
+        bytes: Buffer::new(),
         size,
     }
 }
@@ -75,25 +69,19 @@ pub fn asked(transfer: Transfer<&[u8]>) -> Result<Asked, Refusal>
     match transfer {
         Transfer::Write { text } => write(text),
         Transfer::WriteLine { text } => write_line(text),
-        Transfer::Read { length } => {
-            if is_bad_length(length) {
-                return Err(Refusal::BadLength);
-            }
-            Ok(read(TransferKind::Read, length as u8))
-        }
+        Transfer::Read { length } => Ok(read(TransferKind::Read, sized(length)?)),
         Transfer::ReadLine => Ok(read(TransferKind::ReadLine, LONGEST)),
     }
 }
 
 // The record of a task that asks for a transfer: no outcome yet.
 pub fn begun(task: &Task, asked: Asked) -> Task
-    ensures { as_task result ≡ with_transfer asked.kind (laid asked.laid) (as_task task.now) }
+    ensures { as_task result ≡ with_transfer asked.kind asked.bytes (as_task task.now) }
 {
-    let mut begun = *task;
-    let bytes = asked.laid.bytes;
-    begun.bytes = bytes;
-    begun.size = asked.laid.size;
-    begun.kind = Some(asked.kind);
-    begun.outcome = Outcome::NoneYet;
-    begun
+    Task {
+        bytes: asked.bytes,
+        kind: Some(asked.kind),
+        outcome: None,
+        ..*task
+    }
 }

@@ -8,6 +8,6 @@ mod parts;
 mod text;
 
 pub use asking::{asked, begun};
-pub use moves::{Moved, one_move};
-pub use parts::{Asked, Laid};
-pub use text::{by_count, by_line, is_line_end};
+pub use moves::one_move;
+pub use parts::Asked;
+pub use text::{by_line, is_line_end};

@@ -1,10 +1,10 @@
 // One byte of a transfer moved: what the unit is handed or asked for, and what becomes of the task's record.
 
-ghost use Rattle.std.specs.Prelude.{◌≡◌, ◌+◌, ◌<◌, true, false, ◌&&◌, ◌||◌, is_some, ◌==◌, slice_index};
+ghost use Rattle.std.specs.Prelude.{◌≡◌, ◌+◌, ◌<◌, true, false, ◌&&◌, ◌||◌, length, ◌==◌, slice_index};
 ghost use Rattle.moving.specs.Moved.{after_move, changed, heard, move_for, taken_in};
 ghost use Rattle.queues.specs.View.{as_request};
 ghost use Rattle.rules.specs.Sound.{fits};
-ghost use Rattle.rules.specs.State.{with_bytes, with_outcome};
+ghost use Rattle.rules.specs.State.{with_bytes};
 ghost use Rattle.rules.specs.Transfers.{by_line, line_end, writes};
 ghost use Rattle.tasks.specs.Parts.{as_task};
 
@@ -15,62 +15,42 @@ use queues::UnitRequest;
 use tasks::Task;
 use unit::{TransferFault, Unit};
 
-// A task's record after one byte, and whether its transfer has ended.
-#[derive(Clone, Copy)]
-pub struct Moved {
-    pub task: Task,
-    pub ends: bool,
-}
-
 // Whether a transfer moves bytes to the unit.
 fn is_write(kind: Option<TransferKind>) -> bool
     ensures { result ≡ writes kind }
 {
-    match kind {
-        Some(TransferKind::Write) | Some(TransferKind::WriteLine) => true,
-        Some(TransferKind::Read) | Some(TransferKind::ReadLine) | None => false,
-    }
+    matches!(kind, Some(TransferKind::Write | TransferKind::WriteLine))
 }
 
 // Whether a line end ends a transfer.
 fn is_by_line(kind: Option<TransferKind>) -> bool
     ensures { result ≡ by_line kind }
 {
-    match kind {
-        Some(TransferKind::ReadLine) => true,
-        Some(TransferKind::Read)
-        | Some(TransferKind::Write)
-        | Some(TransferKind::WriteLine)
-        | None => false,
-    }
+    matches!(kind, Some(TransferKind::ReadLine))
 }
 
 // The unit is handed the next byte of a write, or asked for a byte of a read. The byte, or the unit's fault.
 fn move_byte<U: Unit>(device: &mut U, task: &Task, moved: u8) -> Result<u8, TransferFault>
-    requires { moved < 80 }
+    requires { writes task.now.kind ≡ true → moved < length task.now.bytes }
     ensures medium { U.Unit.medium device.new ≡ after_move task.now.kind (slice_index task.now.bytes moved) (U.Unit.medium device.old) }
     ensures told { result ≡ heard task.now.kind (slice_index task.now.bytes moved) (U.Unit.medium device.old) }
 {
     if is_write(task.kind) {
-        let byte = task.bytes[moved as usize];
+        let byte = task.bytes.as_slice()[moved as usize];
         device.take(byte)?;
         return Ok(byte);
     }
     Ok(device.give()?)
 }
 
-// The record of a task of whose transfer a byte was moved: a byte that was read joins its transfer bytes.
-fn with_byte(task: Task, byte: u8) -> Task
-    requires { writes task.kind ≡ false → task.size < 80 }
-    ensures { as_task result ≡ with_bytes (taken_in task.kind byte (as_task task).bytes) (as_task task) }
+// A byte of a task's transfer was moved: if it was read, it joins the transfer bytes.
+fn take_in(task: &mut Task, byte: u8)
+    requires { writes task.old.kind ≡ false → length task.old.bytes < 80 }
+    ensures { as_task task.new ≡ with_bytes (taken_in task.old.kind byte task.old.bytes) (as_task task.old) }
 {
-    if is_write(task.kind) {
-        return task;
+    if !is_write(task.kind) {
+        task.bytes.push(byte);
     }
-    let mut more = task;
-    more.bytes[more.size] = byte;
-    more.size += 1;
-    more
 }
 
 // Whether the byte is the last of a transfer.
@@ -81,47 +61,29 @@ fn is_last(kind: Option<TransferKind>, request: UnitRequest, byte: u8) -> bool
     request.moved + 1 == request.size || (is_by_line(kind) && is_line_end(byte))
 }
 
-// The record of a task whose transfer has ended.
-fn ended(task: Task, outcome: Outcome) -> Moved
-    ensures task { as_task result.task ≡ with_outcome (as_task task).bytes outcome (as_task task) }
-    ensures ends { result.ends ≡ true }
-{
-    let mut task = task;
-    task.outcome = outcome;
-    Moved { task, ends: true }
-}
-
-// Moves one byte of the first request at a unit, which is that of `task`.
-pub fn one_move<U: Unit>(device: &mut U, task: Task, first: Waiting<UnitRequest>) -> Moved
-    requires { fits (as_task task) (as_request first) ≡ true }
-    ensures medium { U.Unit.medium device.new ≡ (move_for (as_task task) (as_request first) (U.Unit.medium device.old)).unit }
-    ensures task { as_task result.task ≡ changed (move_for (as_task task) (as_request first) (U.Unit.medium device.old)) (as_task task) }
-    ensures ends { result.ends ≡ is_some (move_for (as_task task) (as_request first) (U.Unit.medium device.old)).ends }
+// Moves one byte of the first request at a unit, which is that of `task`. The outcome, if the transfer has ended.
+pub fn one_move<U: Unit>(
+    device: &mut U,
+    task: &mut Task,
+    first: Waiting<UnitRequest>,
+) -> Option<Outcome>
+    requires { fits (as_task task.old) (as_request first) ≡ true }
+    ensures medium { U.Unit.medium device.new ≡ (move_for (as_task task.old) (as_request first) (U.Unit.medium device.old)).unit }
+    ensures task { as_task task.new ≡ changed (move_for (as_task task.old) (as_request first) (U.Unit.medium device.old)) (as_task task.old) }
+    ensures ends { result ≡ (move_for (as_task task.old) (as_request first) (U.Unit.medium device.old)).ends }
 {
     let request = first.wait;
-    let byte = match move_byte(device, &task, request.moved) {
-        Ok(byte) => byte,
-        Err(fault) => {
-            let fault = fault.after(request.moved);
-            return ended(
-                task,
-                Outcome::Failed {
-                    device: U::device_code(),
-                    fault,
-                },
-            );
+    let end = match move_byte(device, task, request.moved) {
+        Ok(byte) => {
+            take_in(task, byte);
+            if !is_last(task.kind, request, byte) {
+                return None;
+            }
+            Ok(request.moved + 1)
         }
+        Err(fault) => Err(fault.after(request.moved)),
     };
-    let task = with_byte(task, byte);
-    if is_last(task.kind, request, byte) {
-        let moved = request.moved + 1;
-        return ended(
-            task,
-            Outcome::Complete {
-                device: U::device_code(),
-                moved,
-            },
-        );
-    }
-    Moved { task, ends: false }
+    let device = U::device_code();
+    task.outcome = Some(Outcome { device, end });
+    task.outcome
 }

@@ -3,7 +3,6 @@ use Rattle.std.specs.Prelude.{ℕ, ◌+◌, Bool, true, false, cond, List, [], �
 use Rattle.std.specs.List.{flat_map}
 use Rattle.calls.specs.declared.call.ByIdCall.{ByIdCall}
 use Rattle.calls.specs.declared.call.ByIdCall.TheVariants.{Kill, Ready, Suspend, SetLevel, Status}
-use Rattle.calls.specs.declared.outcome.Outcome.TheVariants.{NoneYet}
 use Rattle.calls.specs.declared.refusal.Refusal.TheVariants.{NoFreeRecord, IdInUse, NoSuchId, AtUnit}
 use Rattle.chain.specs.Lists.{has}
 use Rattle.rules.specs.State.{CellWait, Cells, ClockWait, Request, State, Task, level_of, task_of, with_cells, with_level, with_mark, with_sleeping}
@@ -51,7 +50,7 @@ or_else other level = cond (level == 0) other level
 
 -- a new task's record
 abbrev pub new_task : ℕ → ℕ → ℕ → ℕ → Task
-new_task id level start message = record { id = id; level = level; mark = false; word = message; start = start; bytes = []; kind = None; outcome = NoneYet }
+new_task id level start message = record { id = id; level = level; mark = false; word = message; start = start; bytes = []; kind = None; outcome = None }
 
 -- the record k is filled; the caller t is linked, then the new task, and one is chosen
 abbrev pub making : ℕ → ℕ → Task → Act

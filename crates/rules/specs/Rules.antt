@@ -7,7 +7,7 @@ use Rattle.calls.specs.declared.call.LookedAt.TheVariants.{Message, Start, Outco
 use Rattle.calls.specs.declared.call.TransferKind.{TransferKind}
 use Rattle.calls.specs.declared.call.TransferKind.TheVariants as kind
 use Rattle.calls.specs.declared.refusal.Refusal.TheVariants.{NoTask, NoSuchUnit}
-use Rattle.calls.specs.Numbers.{outcome_number}
+use Rattle.calls.specs.Numbers.{number_told}
 use Rattle.chain.specs.Lists.{first}
 use Rattle.rules.specs.State.{State, Task, queue_of, task_of}
 use Rattle.rules.specs.Tables.{lookup}
@@ -25,7 +25,7 @@ Step = Call (List ℕ)
 abbrev pub seen : LookedAt → Task → ℕ
 seen Message t = t.word
 seen Start t = t.start
-seen Outcome t = outcome_number t.outcome
+seen Outcome t = number_told t.outcome
 
 -- what stands behind the outcome that a look tells: the bytes of a task whose latest transfer was a read
 abbrev pub bytes_read : Option TransferKind → List ℕ → List ℕ

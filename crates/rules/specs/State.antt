@@ -2,7 +2,6 @@
 use Rattle.std.specs.Prelude.{ℕ, Bool, false, List, [], replicate, Some, None, Option, slice_index, slice_index_or}
 use Rattle.calls.specs.declared.call.TransferKind.{TransferKind}
 use Rattle.calls.specs.declared.outcome.Outcome.{Outcome}
-use Rattle.calls.specs.declared.outcome.Outcome.TheVariants.{NoneYet}
 use Rattle.chain.specs.Lists.{rank_in, rest, rising}
 use Rattle.unit.specs.Medium.{Medium, fresh}
 
@@ -15,11 +14,11 @@ pub record Task : Type 0 where
   pub start : ℕ
   pub bytes : List ℕ
   pub kind : Option TransferKind
-  pub outcome : Outcome
+  pub outcome : Option Outcome
 
 -- a record with every field 0
 abbrev pub blank : Task
-blank = record { id = 0; level = 0; mark = false; word = 0; start = 0; bytes = []; kind = None; outcome = NoneYet }
+blank = record { id = 0; level = 0; mark = false; word = 0; start = 0; bytes = []; kind = None; outcome = None }
 
 -- the records, the three chains and the running task; chains hold the numbers of records
 pub record Table : Type 0 where
@@ -152,11 +151,11 @@ with_word x t = record { id = t.id; level = t.level; mark = t.mark; word = x; st
 
 -- the record at the asking for a transfer: no outcome yet
 abbrev pub with_transfer : TransferKind → List ℕ → Task → Task
-with_transfer k b t = record { id = t.id; level = t.level; mark = t.mark; word = t.word; start = t.start; bytes = b; kind = Some k; outcome = NoneYet }
+with_transfer k b t = record { id = t.id; level = t.level; mark = t.mark; word = t.word; start = t.start; bytes = b; kind = Some k; outcome = None }
 
 abbrev pub with_bytes : List ℕ → Task → Task
 with_bytes b t = record { id = t.id; level = t.level; mark = t.mark; word = t.word; start = t.start; bytes = b; kind = t.kind; outcome = t.outcome }
 
 -- the record at the end of a transfer
 abbrev pub with_outcome : List ℕ → Outcome → Task → Task
-with_outcome b o t = record { id = t.id; level = t.level; mark = t.mark; word = t.word; start = t.start; bytes = b; kind = t.kind; outcome = o }
+with_outcome b o t = record { id = t.id; level = t.level; mark = t.mark; word = t.word; start = t.start; bytes = b; kind = t.kind; outcome = Some o }

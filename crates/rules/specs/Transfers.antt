@@ -5,7 +5,7 @@ use Rattle.calls.specs.declared.call.Transfer.TheVariants.{Write, WriteLine, Rea
 use Rattle.calls.specs.declared.call.TransferKind.{TransferKind}
 use Rattle.calls.specs.declared.call.TransferKind.TheVariants as kind
 use Rattle.calls.specs.declared.outcome.Outcome.{Outcome}
-use Rattle.calls.specs.declared.outcome.Outcome.TheVariants.{Complete, Failed}
+use Rattle.calls.specs.Outcomes.{complete_at, failed_at}
 use Rattle.calls.specs.declared.refusal.Refusal.TheVariants.{BadLength, NoLineEnd, NoRequest}
 use Rattle.chain.specs.Lists.{join}
 use Rattle.unit.specs.declared.faults.UnitFault.{UnitFault}
@@ -78,11 +78,11 @@ pub record Move : Type 0 where
 
 -- the outcome of a transfer that is complete with this byte
 abbrev pub complete_if : Bool → Medium → ℕ → Option Outcome
-complete_if b m moved = cond b (Some (Complete m.code moved)) None
+complete_if b m moved = cond b (Some (complete_at m.code moved)) None
 
 -- the outcome of a transfer that the unit's fault ends
 abbrev pub failed : Medium → ℕ → UnitFault → Option Outcome
-failed m moved fault = Some (Failed m.code (fault_after moved fault))
+failed m moved fault = Some (failed_at m.code (fault_after moved fault))
 
 -- the unit is handed the next byte, and told so
 abbrev pub move_out : Request → List ℕ → Medium → Result (Unit {0}) UnitFault → Move

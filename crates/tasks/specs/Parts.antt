@@ -9,7 +9,7 @@ use Rattle.tasks.specs.declared.task.Task.{Task}
 
 -- the record of the rules that a record of the code stands for
 abbrev pub as_task : Task → rules.Task
-as_task t = record { id = t.id; level = t.level; mark = t.mark; word = t.word; start = t.start; bytes = take t.size t.bytes; kind = t.kind; outcome = t.outcome }
+as_task t = record { id = t.id; level = t.level; mark = t.mark; word = t.word; start = t.start; bytes = t.bytes; kind = t.kind; outcome = t.outcome }
 
 -- the table that the links, the heads of three chains and the running task stand for
 unfoldable pub table_of : Links Task → Option ℕ → Option ℕ → Option ℕ → Option ℕ → Table

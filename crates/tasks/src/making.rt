@@ -7,7 +7,7 @@ ghost use Rattle.tasks.specs.Parts.{as_task};
 ghost use Rattle.tasks.specs.View.{table};
 
 use crate::{Task, Tasks};
-use calls::Outcome;
+use buffer::Buffer;
 use chain::Links;
 use std::alloc::{AllocError, Global};
 
@@ -22,10 +22,9 @@ impl Task {
             mark: false,
             word,
             start,
-            bytes: [0; 80],
-            size: 0,
+            bytes: Buffer::new(),
             kind: None,
-            outcome: Outcome::NoneYet,
+            outcome: None,
         }
     }
 }

@@ -23,27 +23,24 @@ impl Tasks {
         requires { t < length (table self.old).tasks }
         ensures { table self.new ≡ change t (with_word word) (table self.old) }
     {
-        let mut task = *self.task(t);
-        task.word = word;
-        self.replace(t, task);
+        let task = *self.task(t);
+        self.replace(t, Task { word, ..task });
     }
 
     pub fn set_level(&mut self, t: usize, level: u8)
         requires { t < length (table self.old).tasks }
         ensures { table self.new ≡ change t (with_level level) (table self.old) }
     {
-        let mut task = *self.task(t);
-        task.level = level;
-        self.replace(t, task);
+        let task = *self.task(t);
+        self.replace(t, Task { level, ..task });
     }
 
     pub fn set_mark(&mut self, t: usize, mark: bool)
         requires { t < length (table self.old).tasks }
         ensures { table self.new ≡ change t (with_mark mark) (table self.old) }
     {
-        let mut task = *self.task(t);
-        task.mark = mark;
-        self.replace(t, task);
+        let task = *self.task(t);
+        self.replace(t, Task { mark, ..task });
     }
 
     // Fills the record `k` as the first free one, which leaves the free chain.
@@ -80,13 +77,10 @@ impl Tasks {
         if id == 0 {
             return None;
         }
-        let count = self.count();
-        let mut k = 0;
-        while k < count {
+        for k in 0..self.count() {
             if self.is_named(k, id) {
                 return Some(k);
             }
-            k += 1;
         }
         None
     }

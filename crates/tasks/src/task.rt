@@ -1,8 +1,9 @@
 // A task's record as the code holds it, ranked by its level.
 
-ghost use Rattle.std.specs.Prelude.{◌≤◌, nat_le};
+ghost use Rattle.std.specs.Prelude.{nat_le};
 ghost use Rattle.std.proofs.Common.{rules, arith};
 
+use buffer::Buffer;
 use calls::{Outcome, TransferKind};
 use chain::Ranked;
 
@@ -13,13 +14,12 @@ pub struct Task {
     pub mark: bool,
     pub word: u16,
     pub start: u16,
-    // what the latest transfer moves or has moved: the first `size` of these
-    pub bytes: [u8; 80],
-    pub size: usize,
+    // what the latest transfer moves or has moved
+    pub bytes: Buffer<80>,
     // the latest transfer, if there was one
     pub kind: Option<TransferKind>,
-    pub outcome: Outcome,
-    ghost fits: { size ≤ 80 },
+    // how the latest transfer ended, if it has
+    pub outcome: Option<Outcome>,
 }
 
 impl Ranked for Task {

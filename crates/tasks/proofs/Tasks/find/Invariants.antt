@@ -1,11 +1,8 @@
 -- No record before k has the id, so a search from k finds what a search from the first does.
-use Rattle.std.proofs.Common.{◌≡◌, ◌-◌, ◌≤◌, drop}
+use Rattle.std.proofs.Common.{◌≡◌, drop}
 use Rattle.rules.specs.Tables.{id_from}
 use Rattle.tasks.specs.View.{table}
 use Rattle.tasks.proofs.Tasks.find.Given as goal
 
 abbrev pub invariant-loop-k : goal.invariant-loop-k
-invariant-loop-k l = (id_from l.k l.id (table l.self).free (drop l.k (table l.self).tasks) ≡ id_from 0 l.id (table l.self).free (table l.self).tasks) × (l.k ≤ l.count)
-
-abbrev pub decreases-loop-k : goal.decreases-loop-k
-decreases-loop-k l = l.count - l.k
+invariant-loop-k l = id_from l.k l.id (table l.self).free (drop l.k (table l.self).tasks) ≡ id_from 0 l.id (table l.self).free (table l.self).tasks
