@@ -1,6 +1,6 @@
 // The number of a unit: there are four.
 
-ghost use Rattle.queues.specs.Number.{told};
+ghost use Rattle.queues.specs.Number.{number_of, told};
 ghost use Rattle.std.specs.Prelude.{◌≡◌};
 
 use calls::Refusal;
@@ -13,11 +13,13 @@ pub enum UnitNumber {
     Unit3,
 }
 
-impl UnitNumber {
-    // The unit with the number; refused if it is above 3.
-    pub fn of(unit: u8) -> Result<UnitNumber, Refusal>
-        ensures { result ≡ told unit }
-    {
+// The unit with the number; refused if it is above 3.
+impl TryFrom<u8> for UnitNumber {
+    type Error = Refusal;
+
+    ghost try_from_gives = { λ unit r. r ≡ told unit };
+
+    fn try_from(unit: u8) -> Result<UnitNumber, Refusal> {
         match unit {
             0 => Ok(UnitNumber::Unit0),
             1 => Ok(UnitNumber::Unit1),
@@ -25,5 +27,13 @@ impl UnitNumber {
             3 => Ok(UnitNumber::Unit3),
             _ => Err(Refusal::NoSuchUnit),
         }
+    }
+}
+
+impl From<UnitNumber> for usize {
+    ghost from_gives = { λ unit r. r ≡ number_of unit };
+
+    fn from(unit: UnitNumber) -> usize {
+        unit as usize
     }
 }

@@ -4,10 +4,11 @@ ghost use Rattle.std.specs.Prelude.{◌≡◌, ◌<◌, false, [], set, replicat
 ghost use Rattle.chain.specs.Lists.{first, has, rest};
 ghost use Rattle.queues.specs.Four.{queue_at, queues, room_of};
 ghost use Rattle.queues.specs.Number.{number_of};
-ghost use Rattle.queues.specs.View.{advanced, as_request};
+ghost use Rattle.queues.specs.View.{advanced, as_request, requests};
 ghost use Rattle.rules.specs.Records.{all_askers, askers};
 ghost use Rattle.rules.specs.State.{Request};
 ghost use Rattle.rules.specs.Transfers.{enqueue};
+ghost use Rattle.std.specs.List.{list_any};
 ghost use Rattle.std.specs.Option.{option_map};
 
 use crate::{Queue, Queues, UnitNumber, UnitRequest};
@@ -20,34 +21,27 @@ impl Queues {
         ensures queues { IfOk result (λ x. queues x ≡ replicate 4 []) }
         ensures room { IfOk result (λ x. room_of x ≡ n) }
     {
-        Ok(Queues {
-            at_0: Queue::of(heap, n)?,
-            at_1: Queue::of(heap, n)?,
-            at_2: Queue::of(heap, n)?,
-            at_3: Queue::of(heap, n)?,
-        })
+        let at = [
+            Queue::of(heap, n)?,
+            Queue::of(heap, n)?,
+            Queue::of(heap, n)?,
+            Queue::of(heap, n)?,
+        ];
+        Ok(Queues { at })
     }
 
     // Whether task `t` waits at any unit.
     pub fn is_asking(&self, t: usize) -> bool
         ensures { result ≡ has t (all_askers (queues self.now)) }
     {
-        self.at_0.is_asking(t)
-            | self.at_1.is_asking(t)
-            | self.at_2.is_asking(t)
-            | self.at_3.is_asking(t)
+        any_asking(&self.at, t)
     }
 
     // The first task at a unit and its request, if there is one.
     pub fn first(&self, unit: UnitNumber) -> Option<Waiting<UnitRequest>>
         ensures { option_map as_request result ≡ first (queue_at unit self.now) }
     {
-        match unit {
-            UnitNumber::Unit0 => self.at_0.first(),
-            UnitNumber::Unit1 => self.at_1.first(),
-            UnitNumber::Unit2 => self.at_2.first(),
-            UnitNumber::Unit3 => self.at_3.first(),
-        }
+        self.at[usize::from(unit)].first()
     }
 
     // Task `t`, which waits at no unit, asks a unit for a transfer of at most `size` bytes.
@@ -57,12 +51,7 @@ impl Queues {
         ensures queues { queues self.new ≡ set (queues self.old) (number_of unit) (enqueue (record { task = t; size = size; moved = 0 }) (queue_at unit self.old)) }
         ensures room { room_of self.new ≡ room_of self.old }
     {
-        match unit {
-            UnitNumber::Unit0 => self.at_0.join(t, size),
-            UnitNumber::Unit1 => self.at_1.join(t, size),
-            UnitNumber::Unit2 => self.at_2.join(t, size),
-            UnitNumber::Unit3 => self.at_3.join(t, size),
-        }
+        self.at[usize::from(unit)].join(t, size);
     }
 
     // Ends the first request at a unit.
@@ -70,12 +59,7 @@ impl Queues {
         ensures queues { queues self.new ≡ set (queues self.old) (number_of unit) (rest (queue_at unit self.old)) }
         ensures room { room_of self.new ≡ room_of self.old }
     {
-        let _ = match unit {
-            UnitNumber::Unit0 => self.at_0.pop(),
-            UnitNumber::Unit1 => self.at_1.pop(),
-            UnitNumber::Unit2 => self.at_2.pop(),
-            UnitNumber::Unit3 => self.at_3.pop(),
-        };
+        let _ = self.at[usize::from(unit)].pop();
     }
 
     // One more byte of the first request at a unit is moved, of which some were still to be moved.
@@ -84,11 +68,13 @@ impl Queues {
         ensures queues { queues self.new ≡ set (queues self.old) (number_of unit) (advanced (queue_at unit self.old)) }
         ensures room { room_of self.new ≡ room_of self.old }
     {
-        match unit {
-            UnitNumber::Unit0 => self.at_0.advance(),
-            UnitNumber::Unit1 => self.at_1.advance(),
-            UnitNumber::Unit2 => self.at_2.advance(),
-            UnitNumber::Unit3 => self.at_3.advance(),
-        }
+        self.at[usize::from(unit)].advance();
     }
+}
+
+// Whether task `t` is in one of the queues.
+fn any_asking(queues: &[Queue], t: usize) -> bool
+    ensures { result ≡ list_any (λ q. has t (askers (requests q))) queues.now }
+{
+    queues.iter().any(|queue| queue.is_asking(t))
 }

@@ -1,9 +1,7 @@
--- The tasks that wait at any unit are those of the four queues, joined.
-use Rattle.std.proofs.Common.{sym, ◌∙◌}
-use Rattle.queues.proofs.Everywhere.{any_of_four, at_any}
+-- A task waits at any unit if it is in one of the queues.
+use Rattle.std.proofs.Common.{◌∙◌}
+use Rattle.queues.proofs.Everywhere.{at_any}
 use Rattle.queues.proofs.four.Queues.is_asking.Goals as goal
 
 pub returns : goal.returns
-returns c =
-    any_of_four c.is_asking.ensures c.is_asking-2.ensures c.is_asking-3.ensures c.is_asking-4.ensures
-    ∙ sym (at_any c.args.self.now c.args.t)
+returns c = c.any_asking.ensures ∙ at_any c.args.t c.args.self.now.at
