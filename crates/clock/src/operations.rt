@@ -45,9 +45,7 @@ impl ClockWaits {
         ensures laws { ReleasedOne reading result (sleeping self.old) (sleeping self.new) }
         ensures room { room self.new ≡ room self.old }
     {
-        let Some(first) = self.line.first() else {
-            return None;
-        };
+        let first = self.line.first()?;
         if first.wait.due > reading {
             return None;
         }

@@ -5,16 +5,16 @@ use Rattle.clock.specs.Waits.{waits_of}
 use Rattle.clock.proofs.Sleeps.{first-task, popped_due, popped_later, popped_none, released, rest_as, rest-by-due}
 use Rattle.clock.proofs.ClockWaits.pop_due.Goals as goal
 
-pub returns-in_default : goal.returns-in_default
-returns-in_default c =
+pub returns-in_err-first : goal.returns-in_err-first
+returns-in_err-first c =
     let x = c.args.self.now.line in
-    let p = popped_none c.args.reading (list (record { due = 0 }) x) (c.in_default.ensures (record { due = 0 })) in
-    record { first = p.0; waits = p.1; laws = released c.args.reading None (waits_of x) (waits_of x) p.0 p.1; room = refl }
+    let p = popped_none c.args.reading (list (record { due = 0 }) x) (c.in_err-first.ensures (record { due = 0 })) in
+    rw c.from_residual.ensures (record { first = p.0; waits = p.1; laws = released c.args.reading None (waits_of x) (waits_of x) p.0 p.1; room = refl })
 
 pub returns-then-first-reading : goal.returns-then-first-reading
 returns-then-first-reading c =
     let x = c.args.self.now.line in
-    let p = popped_later c.args.reading (list (record { due = 0 }) x) c.in-Some.first (c.in-Some.ensures (record { due = 0 })) (omega arith) c.args.self.now.sorted in
+    let p = popped_later c.args.reading (list (record { due = 0 }) x) c.in_ok-first.first (c.in_ok-first.ensures (record { due = 0 })) (omega arith) c.args.self.now.sorted in
     record { first = p.0; waits = p.1; laws = released c.args.reading None (waits_of x) (waits_of x) p.0 p.1; room = refl }
 
 pub invariant_of-self : goal.invariant_of-self
@@ -28,6 +28,6 @@ pub returns : goal.returns
 returns c =
     let x = c.args.self.now.line in
     let y = c.pop.new.self in
-    let is = first-task x c.in-Some.first c.pop.result c.in-Some.ensures c.pop.ensures.first in
-    let p = popped_due c.args.reading c.pop.result (list (record { due = 0 }) x) (list (record { due = 0 }) y) c.in-Some.first (c.in-Some.ensures (record { due = 0 })) (omega arith) is (c.pop.ensures.list (record { due = 0 })) in
+    let is = first-task x c.in_ok-first.first c.pop.result c.in_ok-first.ensures c.pop.ensures.first in
+    let p = popped_due c.args.reading c.pop.result (list (record { due = 0 }) x) (list (record { due = 0 }) y) c.in_ok-first.first (c.in_ok-first.ensures (record { due = 0 })) (omega arith) is (c.pop.ensures.list (record { due = 0 })) in
     record { first = p.0; waits = p.1; laws = released c.args.reading c.pop.result (waits_of x) (waits_of y) p.0 p.1; room = c.pop.ensures.room }
