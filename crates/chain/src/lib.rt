@@ -34,7 +34,7 @@ pub trait Ranked {
 }
 
 // A record and the number of the next one.
-#[derive(Drop)]
+#[derive(Clone, Copy, Drop)]
 pub struct Link<R> {
     pub record: R,
     pub next: Option<usize>,
@@ -78,15 +78,15 @@ impl<R: Copy> Links<R> {
         ensures records { IfOk result (λ t. records t ≡ replicate n blank) }
         ensures nexts { IfOk result (λ t. nexts t ≡ replicate n None) }
     {
-        let mut links = Vec::with_capacity(heap, n)?;
-        let mut i = 0;
-        while i < n {
-            links.push_reserved(Link {
+        // `vec!` clones, and it is not said that a clone of an `R` is the same.
+        let mut links = Vec::new(heap);
+        links.resize(
+            n,
+            Link {
                 record: blank,
                 next: None,
-            });
-            i += 1;
-        }
+            },
+        )?;
         Ok(Links { links })
     }
 }
