@@ -170,13 +170,9 @@ impl<R> Links<R> {
         ensures rest { chain (nexts self.now) head.new ≡ rest (chain (nexts self.now) head.old) }
         ensures laws { Chosen result (chain (nexts self.now) head.old) (chain (nexts self.now) head.new) }
     {
-        match *head {
-            None => None,
-            Some(i) => {
-                *head = self.next_of(i);
-                Some(i)
-            }
-        }
+        let i = (*head)?;
+        *head = self.next_of(i);
+        Some(i)
     }
 
     // The numbers of the chain, in order.
@@ -251,9 +247,7 @@ impl<R> Links<R> {
         ensures records { records self.new ≡ records self.old }
     {
         let mut head = None;
-        let mut i = self.len();
-        while i > 1 {
-            i -= 1;
+        for i in (1..self.len()).rev() {
             self.put_first(&mut head, i);
         }
         head

@@ -11,5 +11,3 @@ invariant-loop-i g l =
     × (l.i ≤ length (nexts l.initial.self))
     × (length (nexts l.initial.self) ≤ l.i + (length (nexts l.initial.self) - 1))
 
-abbrev pub decreases-loop-i : goal.decreases-loop-i
-decreases-loop-i g l = l.i

@@ -7,24 +7,24 @@ use Rattle.chain.proofs.Leads.{chain-once, first-within, next_ends, chain-cons, 
 use Rattle.chain.proofs.Links.take_first.Goals as goal
 
 pub next_of-requires : goal.next_of-requires
-next_of-requires g c = first-within (nexts c.args.self.now) c.args.head.now c.in-Some.i c.in-Some.is c.requires
+next_of-requires g c = first-within (nexts c.args.self.now) c.args.head.now c.in_ok-i.i c.in_ok-i.was c.requires
 
-pub returns-in-None : goal.returns-in-None
-returns-in-None g c =
+pub returns-in_err-i : goal.returns-in_err-i
+returns-in_err-i g c =
     let ns = nexts c.args.self.now in
-    let e = at-end ns c.args.head.now c.in-None.is in
-    let f = sym (ap first e) in
+    let e = at-end ns c.args.head.now c.in_err-i.was in
+    let f = c.from_residual.ensures ∙ sym (ap first e) in
     let r = e ∙ sym (ap rest e) in
     record { ends = c.requires; first = f; rest = r; laws = chosen_by _ _ _ (chain-once ns c.args.head.now c.requires) f r }
 
-pub returns-in-Some : goal.returns-in-Some
-returns-in-Some g c =
+pub returns : goal.returns
+returns g c =
     let ns = nexts c.args.self.now in
-    let s = chain-cons ns c.args.head.now c.in-Some.i c.in-Some.is c.requires c.next_of.result c.next_of.ensures in
+    let s = chain-cons ns c.args.head.now c.in_ok-i.i c.in_ok-i.was c.requires c.next_of.result c.next_of.ensures in
     let f = sym (ap first s) in
     let r = sym (ap rest s) in
     record {
-      ends = next_ends ns c.args.head.now c.in-Some.i c.in-Some.is c.requires c.next_of.result c.next_of.ensures;
+      ends = next_ends ns c.args.head.now c.in_ok-i.i c.in_ok-i.was c.requires c.next_of.result c.next_of.ensures;
       first = f;
       rest = r;
       laws = chosen_by _ _ _ (chain-once ns c.args.head.now c.requires) f r;
