@@ -5,6 +5,3 @@ use Rattle.chain_tests.proofs.tests.links_in_order.Goals as goal
 
 pub link_all-head-requires : goal.link_all-head-requires
 link_all-head-requires g c = let e = ap length c.in_ok-links.ensures.nexts ∙ length-replicate c.args.n None in omega arith
-
-pub overflow_add-place : goal.overflow_add-place
-overflow_add-place g c = omega arith
