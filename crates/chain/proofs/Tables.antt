@@ -1,5 +1,5 @@
 -- The links of a table, by place.
-use Rattle.std.proofs.Common.{◌≡◌, ℕ, zero, suc, ◌^◌, ◌<◌, Bool, not, ltb, leb, ◌∷◌, map, length, get_or, replicate, None, vec_items, vec_len, sym, refl, ap, ◌∙◌, arith}
+use Rattle.std.proofs.Common.{◌≡◌, ℕ, zero, suc, ◌^◌, ◌<◌, Bool, not, nat_lt, nat_le, ◌∷◌, map, length, get_or, replicate, None, vec_items, vec_len, sym, refl, ap, ◌∙◌, arith}
 use lib.ListN.{length-map}
 use Rattle.std.proofs.lemmas.List.{get_or-map}
 use Rattle.std.proofs.lemmas.Bool.Decides.{nat_tests}
@@ -40,5 +40,5 @@ map-replicate f zero x = refl
 map-replicate f (suc n) x = ap (λ l. f x ∷ l) (map-replicate f n x)
 
 -- no record goes behind one that ranks below it, and behind any other it does
-pub not_behind : (a b : ℕ) (r : Bool) → r ≡ leb b a → not r ≡ ltb a b
+pub not_behind : (a b : ℕ) (r : Bool) → r ≡ nat_le b a → not r ≡ nat_lt a b
 not_behind a b r is = rw is (grind (arith, nat_tests))
