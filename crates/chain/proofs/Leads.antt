@@ -1,8 +1,8 @@
 -- A chain and its list: from where the links lead along a list, that list is the chain.
-use Rattle.std.proofs.Common.{◌≡◌, ℕ, zero, suc, ◌-◌, ◌<◌, ◌≤◌, Bool, true, false, not, ◌&&◌, nat_lt, ◌≢◌, List, [], ◌∷◌, length, get_or, drop, Some, None, Option, sym, refl, ap, ◌∙◌, subst, arith}
+use Rattle.std.proofs.Common.{◌≡◌, ℕ, zero, suc, ◌<◌, ◌≤◌, Bool, true, false, not, ◌&&◌, nat_lt, List, [], ◌∷◌, length, get_or, Some, None, Option, sym, refl, ap, ◌∙◌, subst, arith}
 use Rattle.std.proofs.lemmas.Bool.Decides.{nat_tests}
 use Rattle.chain.specs.Lists.{first, has, without}
-use Rattle.chain.specs.Chains.{walk, chain, leads, last_before, Ends}
+use Rattle.chain.specs.Chains.{walk, chain, leads, Ends}
 use Rattle.chain.proofs.Members.{has-without, once}
 
 -- ── there are no more numbers below n, each once, than n ──

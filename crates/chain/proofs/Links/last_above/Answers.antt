@@ -1,5 +1,5 @@
 -- The last number before the walk comes to one that i ranks above.
-use Rattle.std.proofs.Common.{nat_lt, not, rules, refl}
+use Rattle.std.proofs.Common.{nat_lt, not, rules}
 use borrow.Author.Tests.{tests}
 use Rattle.std.proofs.lemmas.Iterator.Adapters.{serves_from_places}
 use Rattle.std.proofs.lemmas.Iterator.Consumers.{YieldsList-at}

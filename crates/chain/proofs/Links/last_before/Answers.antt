@@ -1,5 +1,5 @@
 -- The last number before the walk comes to i.
-use Rattle.std.proofs.Common.{nat_eq, not, rules, refl}
+use Rattle.std.proofs.Common.{nat_eq, not, rules}
 use borrow.Author.Tests.{tests}
 use Rattle.std.proofs.lemmas.Iterator.Consumers.{YieldsList-at}
 use Rattle.std.proofs.lemmas.Iterator.Search.{YieldsList-from_take_while}

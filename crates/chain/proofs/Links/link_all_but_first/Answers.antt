@@ -1,5 +1,5 @@
 -- Each number goes to the head before all above it.
-use Rattle.std.proofs.Common.{◌≤◌, ◌-◌, length, None, sym, refl, ◌∙◌, subst, arith}
+use Rattle.std.proofs.Common.{◌-◌, length, None, sym, refl, ◌∙◌, subst, arith}
 use Rattle.chain.specs.Lists.{rising}
 use Rattle.chain.specs.Chains.{Relinked, nexts}
 use Rattle.chain.proofs.Writes.{rising-fresh, rising_none, rising-put, rising-all}
@@ -15,15 +15,8 @@ loop-i-init g c =
       past = omega arith;
     }
 
-pub put_first-requires : goal.put_first-requires
-put_first-requires g c =
-    let l = c.loop-i in
-    let u = l.invariant.links in
-    record {
-      ends = u.ends;
-      within = (let s = u.size in omega arith);
-      fresh = rising-fresh (nexts l.self) l.head (l.i - 1) l.i _ (omega arith) u.list;
-    }
+pub put_first-requires-clause-fresh : goal.put_first-requires-clause-fresh
+put_first-requires-clause-fresh g c = let l = c.loop-i in rising-fresh (nexts l.self) l.head (l.i - 1) l.i _ (omega arith) l.invariant.links.list
 
 pub loop-i-preserved : goal.loop-i-preserved
 loop-i-preserved g c =
@@ -36,12 +29,9 @@ loop-i-preserved g c =
       past = omega arith;
     }
 
-pub returns : goal.returns
-returns g c =
+pub returns-clause-links : goal.returns-clause-links
+returns-clause-links g c =
     let l = c.loop-i in
     let ns = nexts c.args.self.now in
     let past = l.invariant.past in
-    record {
-      links = rising-all ns (nexts l.self) l.head (length ns) l.i (omega arith) (omega arith) past l.invariant.links;
-      records = l.invariant.records;
-    }
+    rising-all ns (nexts l.self) l.head (length ns) l.i (omega arith) (omega arith) past l.invariant.links

@@ -1,6 +1,4 @@
 -- The number at a place of the walk.
-use Rattle.std.proofs.Common.{◌∙◌}
-use Rattle.chain.specs.Chains.{chain, nexts}
 use Rattle.chain.proofs.Walks.{nth-first, walks}
 use Rattle.chain.proofs.Links.number_at.Goals as goal
 

@@ -1,5 +1,5 @@
 -- The first number left is the one the walk is at, and behind it are those from where its link leads.
-use Rattle.std.proofs.Common.{rules, refl, ap, ◌∙◌}
+use Rattle.std.proofs.Common.{rules}
 use Rattle.chain.specs.Chains.{nexts}
 use Rattle.chain.proofs.Leads.{at-end, chain-cons, first-within, next_ends, next_less}
 use Rattle.chain.proofs.NumbersIterator.next.Goals as goal
