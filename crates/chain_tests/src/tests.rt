@@ -194,6 +194,7 @@ fn numbers_leave(rt: HostRuntime) -> Result<(), Fail> {
     assert_eq!(rt; links.number_at(head, 0), Some(2));
     assert_eq!(rt; links.number_at(head, 1), Some(4));
     assert_eq!(rt; links.number_at(head, 2), None);
+    assert_eq!(rt; links.numbers(head).count(), 2);
     Ok(())
 }
 
