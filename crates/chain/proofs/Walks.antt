@@ -1,5 +1,5 @@
 -- What a walk along a chain finds.
-use Rattle.std.proofs.Common.{◌≡◌, ℕ, zero, suc, ◌<◌, ◌≤◌, Bool, true, not, nat_eq, List, [], ◌∷◌, length, take, drop, get_or, None, Option, refl, sym, ap, ◌∙◌, map-id, Some, arith}
+use Rattle.std.proofs.Common.{◌≡◌, ℕ, zero, suc, ◌<◌, ◌≤◌, Bool, true, not, ◌==◌, List, [], ◌∷◌, length, take, drop, get_or, None, Option, refl, sym, ap, ◌∙◌, map-id, Some, arith}
 use Rattle.std.proofs.lemmas.Bool.Decides.{nat_tests}
 use Rattle.std.proofs.lemmas.Iterator.Adapters.{option_map_id}
 use Rattle.std.proofs.lemmas.List.Sums.{take_while-cons}
@@ -17,7 +17,7 @@ use Rattle.chain.proofs.Writes.{on-within}
 pub walks : {R : Type 0} (w : Numbers R) (xs : List ℕ) → numbers_left w ≡ xs → YieldsList (YieldsFirst (numbers_left {R = R})) (λ x. x) w xs
 walks w xs is = YieldsList-from_first (λ x. x) numbers_left xs is
 
-pub any-has : (i : ℕ) (xs : List ℕ) → list_any (λ k. nat_eq k i) xs ≡ has i xs
+pub any-has : (i : ℕ) (xs : List ℕ) → list_any (λ k. k == i) xs ≡ has i xs
 any-has i [] = refl
 any-has i (x ∷ xs) = let r = any-has i xs in grind (arith, nat_tests)
 

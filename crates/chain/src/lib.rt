@@ -2,9 +2,11 @@
 // One rule serves every kind of record: a record goes behind all of equal or higher rank.
 // Several chains share a table. A chain is known by its head, the number of its first record,
 // and means the list of its numbers in order.
+// The heads stand with the owners of the chains, where a ghost field keeps that each chain ends. So the
+// operations ask for that: a table that kept the heads itself would have to be told which one is meant.
 #![tactic(auto)]
 
-ghost use Rattle.std.specs.Prelude.{◌≡◌, ℕ, ◌-◌, ◌<◌, ◌≤◌, Bool, true, false, ◌∷◌, length, drop, replicate, IfOk, Some, None, nat_eq, nat_le, nat_lt, slice_index_or, slice_set};
+ghost use Rattle.std.specs.Prelude.{◌≡◌, ℕ, ◌-◌, ◌<◌, ◌≤◌, Bool, true, false, ◌∷◌, length, drop, replicate, IfOk, Some, None, ◌==◌, nat_le, nat_lt, slice_index_or, slice_set};
 ghost use Rattle.chain.specs.Chains.{Ends, Relinked, chain, last_before, nexts, records};
 ghost use Rattle.chain.specs.Laws.{Chosen, Linked, TakenOut};
 ghost use Rattle.chain.specs.Lists.{first, has, join, rank_in, rest, rising, without};
@@ -205,7 +207,7 @@ impl<R> Links<R> {
     // The number of the chain that leads to number `i`, or its last if none does.
     fn last_before(&self, head: Option<usize>, i: usize) -> Option<usize>
         requires { Ends (nexts self.now) head }
-        ensures { result ≡ last_before (λ k. nat_eq k i) None (chain (nexts self.now) head) }
+        ensures { result ≡ last_before (λ k. k == i) None (chain (nexts self.now) head) }
     {
         self.numbers(head).take_while(|&k| k != i).last()
     }

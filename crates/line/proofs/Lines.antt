@@ -1,5 +1,5 @@
 -- The waiting tasks of a chain, through everything that is done to a line.
-use Rattle.std.proofs.Common.{◌≡◌, ℕ, ◌+◌, ◌<◌, ◌≤◌, true, false, ◌≢◌, List, [], ◌∷◌, map, length, get_or, set, nat_eq, Some, None, Option, sym, refl, ap, ◌∙◌, subst, arith, get_or-set_other, get_or-set_same}
+use Rattle.std.proofs.Common.{◌≡◌, ℕ, ◌+◌, ◌<◌, ◌≤◌, true, false, ◌≢◌, List, [], ◌∷◌, map, length, get_or, set, ◌==◌, Some, None, Option, sym, refl, ap, ◌∙◌, subst, arith, get_or-set_other, get_or-set_same}
 use Rattle.std.specs.List.{find}
 use Rattle.std.proofs.lemmas.List.{get_or-map}
 use Rattle.std.proofs.lemmas.Bool.Decides.{nat_tests}
@@ -135,11 +135,11 @@ module _ {R : Type 0} (none : R) where
 
   -- ── the walk for a key ──
 
-  key_found : (rs : List R) (key : R → ℕ) (k : ℕ) (xs : List ℕ) → find (λ t. nat_eq (key (get_or rs t none)) k) xs ≡ first (tasks_with key k (map (wait_in none rs) xs))
+  key_found : (rs : List R) (key : R → ℕ) (k : ℕ) (xs : List ℕ) → find (λ t. key (get_or rs t none) == k) xs ≡ first (tasks_with key k (map (wait_in none rs) xs))
   key_found rs key k [] = refl
   key_found rs key k (x ∷ xs) = let r = key_found rs key k xs in grind (arith, nat_tests)
 
-  pub with-found : (a : Links R) (h : Option ℕ) (key : R → ℕ) (k : ℕ) → find (λ t. nat_eq (key (get_or (records a) t none)) k) (chain (nexts a) h) ≡ first (tasks_with key k (waits none a h))
+  pub with-found : (a : Links R) (h : Option ℕ) (key : R → ℕ) (k : ℕ) → find (λ t. key (get_or (records a) t none) == k) (chain (nexts a) h) ≡ first (tasks_with key k (waits none a h))
   unfolding waits
   with-found a h key k = key_found (records a) key k (chain (nexts a) h)
 

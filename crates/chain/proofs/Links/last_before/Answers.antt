@@ -1,5 +1,5 @@
 -- The last number before the walk comes to i.
-use Rattle.std.proofs.Common.{nat_eq, not, rules}
+use Rattle.std.proofs.Common.{◌==◌, not, rules}
 use borrow.Author.Tests.{tests}
 use Rattle.std.proofs.lemmas.Iterator.Consumers.{YieldsList-at}
 use Rattle.std.proofs.lemmas.Iterator.Search.{YieldsList-from_take_while}
@@ -8,5 +8,5 @@ use Rattle.chain.proofs.Links.last_before.Goals as goal
 
 pub returns : goal.returns
 returns g c =
-    last-before _ (λ k. nat_eq k c.args.i) c.last.result c.last.ensures.ran
-    (YieldsList-from_take_while _ (λ k. not (nat_eq k c.args.i)) (YieldsList-at c.take_while.ensures.source (walks c.numbers.result _ c.numbers.ensures)) c.take_while.ensures.closure c.take_while.ensures.done (λ x b q k. search (rules, tests)))
+    last-before _ (λ k. k == c.args.i) c.last.result c.last.ensures.ran
+    (YieldsList-from_take_while _ (λ k. not (k == c.args.i)) (YieldsList-at c.take_while.ensures.source (walks c.numbers.result _ c.numbers.ensures)) c.take_while.ensures.closure c.take_while.ensures.done (λ x b q k. search (rules, tests)))

@@ -1,5 +1,5 @@
 -- The first task that the walk finds whose wait has the key.
-use Rattle.std.proofs.Common.{nat_eq, get_or, sym, ◌∙◌, rules}
+use Rattle.std.proofs.Common.{◌==◌, get_or, sym, ◌∙◌, rules}
 use borrow.Author.Tests.{tests}
 use Rattle.std.proofs.lemmas.Iterator.Adapters.{option_map_id, serves_from_places}
 use Rattle.std.proofs.lemmas.Iterator.Search.{find_from_yields_List}
@@ -19,5 +19,5 @@ returns g c none =
     let s = c.args.self.now in
     let key = g.R.Keyed.key in
     sym (option_map_id c.find.result)
-    ∙ find_from_yields_List (λ t. nat_eq (key (get_or (records s.links) t none)) c.args.key) c.find.new.self _ c.find.result c.find.ensures.ran (walks c.numbers.result _ c.numbers.ensures) (λ x b q k. search (rules, tests))
+    ∙ find_from_yields_List (λ t. key (get_or (records s.links) t none) == c.args.key) c.find.new.self _ c.find.result c.find.ensures.ran (walks c.numbers.result _ c.numbers.ensures) (λ x b q k. search (rules, tests))
     ∙ with-found none s.links s.head key c.args.key
