@@ -1,4 +1,5 @@
 -- The number goes to the head where it ranks above all that stand first, and else behind the last that it does not rank above.
+use Rattle.std.proofs.Common.{arith}
 use Rattle.chain.specs.Lists.{rank_in}
 use Rattle.chain.specs.Chains.{nexts, records}
 use Rattle.chain.proofs.Orders.{linked-by}
@@ -9,7 +10,8 @@ pub link_behind-requires : goal.link_behind-requires
 link_behind-requires g c =
     let behind = behind-within (nexts c.args.self.now) c.args.head.now c.args.i c.requires.ends c.requires.within c.requires.fresh
     (rank_in g.R.Ranked.rank (records c.args.self.now)) c.in-Some.p c.in-Some.ensures in
-    (behind, c.requires.within)
+    let within = c.requires.within in
+    (omega arith, omega arith)
 
 pub returns-in-None : goal.returns-in-None
 returns-in-None g c =
