@@ -1,15 +1,15 @@
 -- A chain and its list: from where the links lead along a list, that list is the chain.
-use Rattle.std.proofs.Common.{◌≡◌, ℕ, zero, suc, ◌-◌, ◌<◌, ◌≤◌, Bool, true, false, not, ◌&&◌, ltb, ◌≢◌, List, [], ◌∷◌, length, get_or, drop, Some, None, Option, sym, refl, ap, ◌∙◌, subst, arith}
+use Rattle.std.proofs.Common.{◌≡◌, ℕ, zero, suc, ◌<◌, ◌≤◌, Bool, true, false, not, ◌&&◌, nat_lt, List, [], ◌∷◌, length, get_or, Some, None, Option, sym, refl, ap, ◌∙◌, subst, arith}
 use Rattle.std.proofs.lemmas.Bool.Decides.{nat_tests}
 use Rattle.chain.specs.Lists.{first, has, without}
-use Rattle.chain.specs.Chains.{walk, chain, leads, last_before, Ends}
+use Rattle.chain.specs.Chains.{walk, chain, leads, Ends}
 use Rattle.chain.proofs.Members.{has-without, once}
 
 -- ── there are no more numbers below n, each once, than n ──
 
 abbrev below : ℕ → List ℕ → Bool
 below n [] = true
-below n (x ∷ xs) = ltb x n && (not (has x xs) && below n xs)
+below n (x ∷ xs) = nat_lt x n && (not (has x xs) && below n xs)
 
 below_less : (n : ℕ) (xs : List ℕ) → has n xs ≡ false → below (suc n) xs ≡ true → below n xs ≡ true
 below_less n [] h b = refl
@@ -119,43 +119,10 @@ module _ (ns : List (Option ℕ)) where
     pub next_less : length (chain ns n) < length (chain ns h)
     next_less = rw chain-cons (omega arith)
 
-  -- how a walk goes on at the number k, and how it stops there
-  module _ (h : Option ℕ) (k : ℕ) (is : h ≡ Some k) (e : Ends ns h) where
-    cons : chain ns h ≡ k ∷ chain ns (get_or ns k None)
-    cons = chain-cons h k is e (get_or ns k None) refl
-
-    pub last-stop : (stop : ℕ → Bool) (p : Option ℕ) → stop k ≡ true → last_before stop p (chain ns h) ≡ p
-    last-stop stop p t = rw cons (grind (arith, nat_tests))
-
-    pub has_here : (i : ℕ) → k ≡ i → has i (chain ns h) ≡ true
-    has_here i same = rw cons (grind (arith, nat_tests))
-
-    pub at_here : (left : ℕ) → left ≡ 0 → first (drop left (chain ns h)) ≡ Some k
-    at_here left none = rw (none, cons) refl
-
-    module _ (n : Option ℕ) (next : n ≡ get_or ns k None) where
-      pub at-go : (left : ℕ) → 1 ≤ left → first (drop (left - 1) (chain ns n)) ≡ first (drop left (chain ns h))
-      at-go left some =
-          let more : left ≡ suc (left - 1) = omega arith in
-          sym (ap (λ xs. first (drop left xs)) (chain-cons h k is e n next) ∙ ap (λ m. first (drop m (k ∷ chain ns n))) more)
-
-      pub last-go : (stop : ℕ → Bool) (p : Option ℕ) → stop k ≡ false → last_before stop (Some k) (chain ns n) ≡ last_before stop p (chain ns h)
-      last-go stop p f = rw (chain-cons h k is e n next) (grind (arith, nat_tests))
-
-      pub has-go : (i : ℕ) → k ≢ i → has i (chain ns n) ≡ has i (chain ns h)
-      has-go i off = rw (chain-cons h k is e n next) (grind (arith, nat_tests))
-
   -- the head is the first of its chain
   pub head_is : (h : Option ℕ) → Ends ns h → first (chain ns h) ≡ h
   head_is None e = ap first chain-none
-  head_is (Some k) e = ap first (cons (Some k) k refl e)
+  head_is (Some k) e = ap first (chain-cons (Some k) k refl e (get_or ns k None) refl)
 
   pub at-end : (h : Option ℕ) → h ≡ None → chain ns h ≡ []
   at-end h is = ap (chain ns) is ∙ chain-none
-
-  pub at_none : (h : Option ℕ) (left : ℕ) → h ≡ None → first (drop left (chain ns h)) ≡ None
-  at_none h left is = ap (λ xs. first (drop left xs)) (at-end h is) ∙ empty left
-    where
-      empty : (left : ℕ) → first (drop {A = ℕ} left []) ≡ None
-      empty zero = refl
-      empty (suc left) = refl

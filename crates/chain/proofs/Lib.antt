@@ -4,3 +4,4 @@ pub mod Orders
 pub mod Leads
 pub mod Writes
 pub mod Tables
+pub mod Walks

@@ -1,5 +1,5 @@
 -- Which numbers a list has, and how often.
-use Rattle.std.proofs.Common.{◌≡◌, ℕ, zero, suc, ◌+◌, ◌≤◌, Bool, true, false, cond, not, ◌&&◌, ◌||◌, eqb, ltb, leb, ◌≢◌, List, [], ◌∷◌, Some, refl, arith}
+use Rattle.std.proofs.Common.{◌≡◌, ℕ, zero, suc, ◌+◌, ◌≤◌, Bool, true, false, if◌then◌else◌, not, ◌&&◌, ◌||◌, ◌==◌, nat_lt, nat_le, ◌≢◌, List, [], ◌∷◌, Some, refl, arith}
 use Rattle.std.proofs.lemmas.Bool.Decides.{nat_tests}
 use Rattle.chain.specs.Lists.{count, first, has, join, one, rest, rising, without}
 use Rattle.chain.specs.Chains.{Apart}
@@ -36,7 +36,7 @@ pub without-join : (rank : ℕ → ℕ) (x : ℕ) (xs : List ℕ) → has x xs �
 without-join rank x [] h = grind (arith, nat_tests)
 without-join rank x (y ∷ ys) h = let r : has x ys ≡ false → without x (join rank x ys) ≡ ys = without-join rank x ys in grind (arith, nat_tests)
 
-pub has_join : (rank : ℕ → ℕ) (k x : ℕ) (xs : List ℕ) → has k (join rank x xs) ≡ (eqb x k || has k xs)
+pub has_join : (rank : ℕ → ℕ) (k x : ℕ) (xs : List ℕ) → has k (join rank x xs) ≡ (x == k || has k xs)
 has_join rank k x [] = refl
 has_join rank k x (y ∷ ys) = let r = has_join rank k x ys in grind (arith, nat_tests)
 
@@ -70,6 +70,6 @@ pub apart_from : (xs ys : List ℕ) → ((k : ℕ) → count k xs + count k ys �
 apart_from xs ys few k on = count_none k ys (let a = some-count k xs on in omega (arith, few k))
 
 -- the n numbers from a on stand there once each
-pub count-rising : (k a n : ℕ) → count k (rising a n) ≡ cond (leb a k && ltb k (a + n)) 1 0
+pub count-rising : (k a n : ℕ) → count k (rising a n) ≡ (if nat_le a k && nat_lt k (a + n) then 1 else 0)
 count-rising k a zero = grind (arith, nat_tests)
 count-rising k a (suc n) = let r = count-rising k (suc a) n in grind (arith, nat_tests)

@@ -91,8 +91,6 @@ chosen_by r xs ys o f b = record {
   out = λ x t. taken-out-by x xs ys o (b ∙ sym (rest_out x xs (sym f ∙ t)));
 }
 
--- ── for callers: ranks and words that agree on the numbers of a chain ──
-
 -- the numbers in other words, where these rank as the numbers do
 pub join-map : {B : Type 0} (word : ℕ → B) (by : ℕ → ℕ) (rank : B → ℕ) (x : ℕ) (xs : List ℕ) → ((k : ℕ) → has k (x ∷ xs) ≡ true → by k ≡ rank (word k))
     → map word (join by x xs) ≡ join rank (word x) (map word xs)
@@ -101,22 +99,3 @@ join-map word by rank x (y ∷ ys) same =
     let a = same x (grind (arith, nat_tests)) in
     let b = same y (grind (arith, nat_tests)) in
     let r = join-map word by rank x ys (λ k on. same k (grind (arith, nat_tests))) in grind (arith, nat_tests)
-
-pub join-same : (by rank : ℕ → ℕ) (x : ℕ) (xs : List ℕ) → ((k : ℕ) → has k (x ∷ xs) ≡ true → by k ≡ rank k) → join by x xs ≡ join rank x xs
-join-same by rank x [] same = refl
-join-same by rank x (y ∷ ys) same =
-    let a = same x (grind (arith, nat_tests)) in
-    let b = same y (grind (arith, nat_tests)) in
-    let r = join-same by rank x ys (λ k on. same k (grind (arith, nat_tests))) in grind (arith, nat_tests)
-
-none_above_same : (by rank : ℕ → ℕ) (x : ℕ) (xs : List ℕ) → by x ≡ rank x → ((k : ℕ) → has k xs ≡ true → by k ≡ rank k) → none_above by x xs ≡ none_above rank x xs
-none_above_same by rank x [] e same = refl
-none_above_same by rank x (y ∷ ys) e same =
-    let b = same y (grind (arith, nat_tests)) in
-    let r = none_above_same by rank x ys e (λ k on. same k (grind (arith, nat_tests))) in grind (arith, nat_tests)
-
-pub sorted-same : (by rank : ℕ → ℕ) (xs : List ℕ) → ((k : ℕ) → has k xs ≡ true → by k ≡ rank k) → sorted by xs ≡ sorted rank xs
-sorted-same by rank [] same = refl
-sorted-same by rank (y ∷ ys) same =
-    let r = sorted-same by rank ys (λ k on. same k (grind (arith, nat_tests))) in
-    let n = none_above_same by rank y ys (same y (grind (arith, nat_tests))) (λ k on. same k (grind (arith, nat_tests))) in grind (arith, nat_tests)

@@ -1,44 +1,23 @@
 -- The links of a table, by place.
-use Rattle.std.proofs.Common.{◌≡◌, ℕ, zero, suc, ◌^◌, ◌<◌, Bool, not, ltb, leb, ◌∷◌, map, length, get_or, replicate, None, vec_items, vec_len, sym, refl, ap, ◌∙◌, arith}
+use Rattle.std.proofs.Common.{◌≡◌, ℕ, zero, suc, ◌<◌, Bool, not, nat_lt, nat_le, ◌∷◌, map, length, get_or, replicate, vec_items, sym, refl, ap, ◌∙◌, arith}
 use lib.ListN.{length-map}
 use Rattle.std.proofs.lemmas.List.{get_or-map}
 use Rattle.std.proofs.lemmas.Bool.Decides.{nat_tests}
 use Rattle.chain.specs.declared.Links.{Links}
-use Rattle.chain.specs.declared.Link.{Link}
 use Rattle.chain.specs.Lists.{rank_in}
 use Rattle.chain.specs.Chains.{nexts, records}
 
 module _ {R : Type 0} (t : Links R) where
-  pub size : vec_len t.links ≡ length (nexts t)
-  size = t.links.ok.0 ∙ sym (length-map (vec_items t.links) (λ l. l.next))
-
   pub as_many : length (records t) ≡ length (nexts t)
   as_many = length-map (vec_items t.links) (λ l. l.record) ∙ sym (length-map (vec_items t.links) (λ l. l.next))
 
-  pub few : length (nexts t) < 2 ^ 63
-  few = let l = t.links.ok.1 in let b = t.links.small in omega (arith, size)
-
-  module _ (k : ℕ) (within : k < length (nexts t)) where
-    pub place : k < vec_len t.links
-    place = omega (arith, size)
-
-    inside : k < length (vec_items t.links)
-    inside = simp length-map at within
-
-    module _ (x : Link R) (read : x ≡ get_or (vec_items t.links) k x) where
-      pub next_is : x.next ≡ get_or (nexts t) k None
-      next_is = sym (get_or-map (λ l. l.next) (vec_items t.links) k x None inside ∙ ap (λ l. l.next) (sym read))
-
-      pub record_is : (none : R) → x.record ≡ get_or (records t) k none
-      record_is none = sym (get_or-map (λ l. l.record) (vec_items t.links) k x none inside ∙ ap (λ l. l.record) (sym read))
-
-    pub rank_is : (rank : R → ℕ) (x : R) → ((none : R) → x ≡ get_or (records t) k none) → rank x ≡ rank_in rank (records t) k
-    rank_is rank x is = ap rank (is x) ∙ sym (get_or-map rank (records t) k x 0 (omega (arith, as_many)))
+  pub rank_is : (k : ℕ) → k < length (nexts t) → (rank : R → ℕ) (x : R) → ((none : R) → x ≡ get_or (records t) k none) → rank x ≡ rank_in rank (records t) k
+  rank_is k within rank x is = ap rank (is x) ∙ sym (get_or-map rank (records t) k x 0 (omega (arith, as_many)))
 
 pub map-replicate : {X Y : Type 0} (f : X → Y) (n : ℕ) (x : X) → map f (replicate n x) ≡ replicate n (f x)
 map-replicate f zero x = refl
 map-replicate f (suc n) x = ap (λ l. f x ∷ l) (map-replicate f n x)
 
 -- no record goes behind one that ranks below it, and behind any other it does
-pub not_behind : (a b : ℕ) (r : Bool) → r ≡ leb b a → not r ≡ ltb a b
+pub not_behind : (a b : ℕ) (r : Bool) → r ≡ nat_le b a → not r ≡ nat_lt a b
 not_behind a b r is = rw is (grind (arith, nat_tests))

@@ -1,5 +1,5 @@
 -- What a write to one link does to the chains, and so what the operations leave.
-use Rattle.std.proofs.Common.{◌≡◌, ℕ, zero, suc, ◌+◌, ◌-◌, ◌<◌, ◌≤◌, Bool, true, false, eqb, ltb, ◌≢◌, List, [], ◌∷◌, length, get_or, set, Some, None, Option, sym, refl, ap, ◌∙◌, subst, arith, length-set, get_or-set_other, get_or-set_same}
+use Rattle.std.proofs.Common.{◌≡◌, ℕ, zero, suc, ◌+◌, ◌-◌, ◌<◌, ◌≤◌, Bool, true, false, ◌==◌, nat_lt, ◌≢◌, List, [], ◌∷◌, length, get_or, set, Some, None, Option, sym, refl, ap, ◌∙◌, subst, arith, length-set, get_or-set_other, get_or-set_same}
 use Rattle.std.proofs.lemmas.Bool.{eqb-true}
 use Rattle.std.proofs.lemmas.Bool.Decides.{nat_tests}
 use Rattle.chain.specs.Lists.{has, without, join, rising}
@@ -68,9 +68,9 @@ linked ns p i = set (set ns i (get_or ns p None)) p (Some i)
 
 module _ (ns : List (Option ℕ)) (rank : ℕ → ℕ) (i : ℕ) (within : i < length ns) where
   -- where i ranks above the first, or there is none, it goes to the head
-  join_first : (xs : List ℕ) → last_before (λ k. ltb (rank i) (rank k)) None xs ≡ None → join rank i xs ≡ i ∷ xs
+  join_first : (xs : List ℕ) → last_before (λ k. nat_lt (rank i) (rank k)) None xs ≡ None → join rank i xs ≡ i ∷ xs
   join_first [] h = refl
-  join_first (x ∷ xs) h = let r = last_some (λ k. ltb (rank i) (rank k)) x xs in grind (arith, nat_tests)
+  join_first (x ∷ xs) h = let r = last_some (λ k. nat_lt (rank i) (rank k)) x xs in grind (arith, nat_tests)
 
   here : (q : ℕ) (h : Option ℕ) (xs : List ℕ) → leads ns h (q ∷ xs) ≡ true → has i (q ∷ xs) ≡ false → leads (linked ns q i) h (q ∷ i ∷ xs) ≡ true
   here q h xs c a =
@@ -83,17 +83,17 @@ module _ (ns : List (Option ℕ)) (rank : ℕ → ℕ) (i : ℕ) (within : i < l
       (on (linked ns q i) (Some i) i xs n refl (simp length-set within) off (get_or-set_other (set ns i n) q i (Some i) None ne ∙ get_or-set_same ns i n None within) kept)
 
   join-later : (p q : ℕ) (h : Option ℕ) (xs : List ℕ) → leads ns h (q ∷ xs) ≡ true → has i (q ∷ xs) ≡ false
-      → last_before (λ k. ltb (rank i) (rank k)) (Some q) xs ≡ Some p → leads (linked ns p i) h (q ∷ join rank i xs) ≡ true
+      → last_before (λ k. nat_lt (rank i) (rank k)) (Some q) xs ≡ Some p → leads (linked ns p i) h (q ∷ join rank i xs) ≡ true
   join-later p q h [] c a at = subst (λ z. leads (linked ns z i) h (q ∷ i ∷ []) ≡ true) (let e = at in cc) (here q h [] c a)
   join-later p q h (x ∷ xs) c a at =
       let s = parts ns h q (x ∷ xs) c in
       let n = get_or ns p None in
       let stop = here q h (x ∷ xs) c a in
-      let go : ltb (rank i) (rank x) ≡ false → leads (linked ns p i) h (q ∷ x ∷ join rank i xs) ≡ true = (λ f.
-      let further : last_before (λ k. ltb (rank i) (rank k)) (Some x) xs ≡ Some p = grind (arith, nat_tests) in
+      let go : nat_lt (rank i) (rank x) ≡ false → leads (linked ns p i) h (q ∷ x ∷ join rank i xs) ≡ true = (λ f.
+      let further : last_before (λ k. nat_lt (rank i) (rank k)) (Some x) xs ≡ Some p = grind (arith, nat_tests) in
       let d = s.2 in
       let j = has_join rank q i xs in
-      let off : q ≢ p = (λ e. let m = last_has (λ k. ltb (rank i) (rank k)) p x xs further in grind (arith, nat_tests)) in
+      let off : q ≢ p = (λ e. let m = last_has (λ k. nat_lt (rank i) (rank k)) p x xs further in grind (arith, nat_tests)) in
       let ne : q ≢ i = (λ e. grind (arith, nat_tests)) in
       on (linked ns p i) h q (x ∷ join rank i xs) (get_or ns q None) s.0 (simp length-set s.1) (grind (arith, nat_tests))
       (get_or-set_other (set ns i n) p q (Some i) None off ∙ get_or-set_other ns i q n None ne)
@@ -101,51 +101,51 @@ module _ (ns : List (Option ℕ)) (rank : ℕ → ℕ) (i : ℕ) (within : i < l
       grind (arith, nat_tests)
 
   join-behind : (p : ℕ) (h : Option ℕ) (xs : List ℕ) → leads ns h xs ≡ true → has i xs ≡ false
-      → last_before (λ k. ltb (rank i) (rank k)) None xs ≡ Some p → (leads (linked ns p i) h (join rank i xs) ≡ true) × (has p xs ≡ true)
+      → last_before (λ k. nat_lt (rank i) (rank k)) None xs ≡ Some p → (leads (linked ns p i) h (join rank i xs) ≡ true) × (has p xs ≡ true)
   join-behind p h [] c a at = let z : ◌≡◌ {A = ℕ} 0 1 = cc in absurd (omega arith)
   join-behind p h (x ∷ xs) c a at =
-      let further : last_before (λ k. ltb (rank i) (rank k)) (Some x) xs ≡ Some p = grind (arith, nat_tests) in
+      let further : last_before (λ k. nat_lt (rank i) (rank k)) (Some x) xs ≡ Some p = grind (arith, nat_tests) in
       let later = join-later p x h xs c a further in
-      (grind (arith, nat_tests), last_has (λ k. ltb (rank i) (rank k)) p x xs further)
+      (grind (arith, nat_tests), last_has (λ k. nat_lt (rank i) (rank k)) p x xs further)
 
 -- ── number i taken out ──
 
 module _ (ns : List (Option ℕ)) (i : ℕ) where
   -- no number leads to i: it is the first
-  out_first : (h : Option ℕ) (xs : List ℕ) → leads ns h xs ≡ true → has i xs ≡ true → last_before (λ k. eqb k i) None xs ≡ None → leads ns (get_or ns i None) (without i xs) ≡ true
+  out_first : (h : Option ℕ) (xs : List ℕ) → leads ns h xs ≡ true → has i xs ≡ true → last_before (λ k. k == i) None xs ≡ None → leads ns (get_or ns i None) (without i xs) ≡ true
   out_first h [] c m at = grind (arith, nat_tests)
   out_first h (x ∷ xs) c m at =
-      let further = last_some (λ k. eqb k i) x xs in
+      let further = last_some (λ k. k == i) x xs in
       let same : x ≡ i = grind (arith, nat_tests) in
       let rest = subst (λ z. leads ns (get_or ns z None) xs ≡ true) same (parts ns h x xs c).3 in
       grind (arith, nat_tests)
 
   -- number p leads to i
   out-later : (p q : ℕ) (h : Option ℕ) (xs : List ℕ) → leads ns h (q ∷ xs) ≡ true → has i xs ≡ true
-      → last_before (λ k. eqb k i) (Some q) xs ≡ Some p → leads (set ns p (get_or ns i None)) h (q ∷ without i xs) ≡ true
+      → last_before (λ k. k == i) (Some q) xs ≡ Some p → leads (set ns p (get_or ns i None)) h (q ∷ without i xs) ≡ true
   out-later p q h [] c m at = grind (arith, nat_tests)
   out-later p q h (x ∷ xs) c m at =
       let s = parts ns h q (x ∷ xs) c in
       let v = get_or ns i None in
       let d = s.2 in
       let w = has-without q i xs in
-      let stop : eqb x i ≡ true → leads (set ns q v) h (q ∷ xs) ≡ true = (λ e.
+      let stop : (x == i) ≡ true → leads (set ns q v) h (q ∷ xs) ≡ true = (λ e.
       let rest = subst (λ z. leads ns (get_or ns z None) xs ≡ true) (eqb-true x i e) (parts ns (get_or ns q None) x xs s.3).3 in
       on (set ns q v) h q xs v s.0 (simp length-set s.1) (grind (arith, nat_tests)) (get_or-set_same ns q v None s.1) (leads-set ns q v v xs (grind (arith, nat_tests)) rest)) in
-      let go : eqb x i ≡ false → leads (set ns p v) h (q ∷ x ∷ without i xs) ≡ true = (λ e.
-      let further : last_before (λ k. eqb k i) (Some x) xs ≡ Some p = grind (arith, nat_tests) in
-      let off : q ≢ p = (λ f. let l = last_has (λ k. eqb k i) p x xs further in grind (arith, nat_tests)) in
+      let go : (x == i) ≡ false → leads (set ns p v) h (q ∷ x ∷ without i xs) ≡ true = (λ e.
+      let further : last_before (λ k. k == i) (Some x) xs ≡ Some p = grind (arith, nat_tests) in
+      let off : q ≢ p = (λ f. let l = last_has (λ k. k == i) p x xs further in grind (arith, nat_tests)) in
       on (set ns p v) h q (x ∷ without i xs) (get_or ns q None) s.0 (simp length-set s.1) (grind (arith, nat_tests))
       (get_or-set_other ns p q v None off) (out-later p x (get_or ns q None) xs s.3 (grind (arith, nat_tests)) further)) in
       grind (arith, nat_tests)
 
-  out-behind : (p : ℕ) (h : Option ℕ) (xs : List ℕ) → leads ns h xs ≡ true → has i xs ≡ true → last_before (λ k. eqb k i) None xs ≡ Some p
+  out-behind : (p : ℕ) (h : Option ℕ) (xs : List ℕ) → leads ns h xs ≡ true → has i xs ≡ true → last_before (λ k. k == i) None xs ≡ Some p
       → (leads (set ns p (get_or ns i None)) h (without i xs) ≡ true) × (has p xs ≡ true)
   out-behind p h [] c m at = grind (arith, nat_tests)
   out-behind p h (x ∷ xs) c m at =
-      let further : last_before (λ k. eqb k i) (Some x) xs ≡ Some p = grind (arith, nat_tests) in
+      let further : last_before (λ k. k == i) (Some x) xs ≡ Some p = grind (arith, nat_tests) in
       let later = out-later p x h xs c in
-      (grind (arith, nat_tests), last_has (λ k. eqb k i) p x xs further)
+      (grind (arith, nat_tests), last_has (λ k. k == i) p x xs further)
 
 -- ── what the operations leave ──
 
@@ -166,11 +166,11 @@ module _ (ns : List (Option ℕ)) (h : Option ℕ) (i : ℕ) (ends : Ends ns h) 
         (grind (arith, nat_tests)))
 
     module _ (rank : ℕ → ℕ) where
-      pub joined-first : (ms : List (Option ℕ)) (g : Option ℕ) → None ≡ last_before (λ k. ltb (rank i) (rank k)) None (chain ns h)
+      pub joined-first : (ms : List (Option ℕ)) (g : Option ℕ) → None ≡ last_before (λ k. nat_lt (rank i) (rank k)) None (chain ns h)
           → Relinked ns ms g (i ∷ chain ns h) (i ∷ chain ns h) → Relinked ns ms g (join rank i (chain ns h)) (i ∷ chain ns h)
       joined-first ms g at u = subst (λ xs. Relinked ns ms g xs (i ∷ chain ns h)) (sym (join_first ns rank i within (chain ns h) (sym at))) u
 
-      module _ (p : ℕ) (at : Some p ≡ last_before (λ k. ltb (rank i) (rank k)) None (chain ns h)) where
+      module _ (p : ℕ) (at : Some p ≡ last_before (λ k. nat_lt (rank i) (rank k)) None (chain ns h)) where
         pub behind-within : p < length ns
         behind-within = has_within ns h p (chain ns h) ends (join-behind ns rank i within p h (chain ns h) ends fresh (sym at)).1
 
@@ -186,12 +186,12 @@ module _ (ns : List (Option ℕ)) (h : Option ℕ) (i : ℕ) (ends : Ends ns h) 
             (write (set ns i n) p (Some i) h (join rank i xs) (i ∷ xs) j.0 (grind (arith, nat_tests))))
 
   module _ (m : has i (chain ns h) ≡ true) (rest : Option ℕ) (next : rest ≡ get_or ns i None) where
-    pub out_of_first : None ≡ last_before (λ k. eqb k i) None (chain ns h) → Relinked ns ns rest (without i (chain ns h)) (chain ns h)
+    pub out_of_first : None ≡ last_before (λ k. k == i) None (chain ns h) → Relinked ns ns rest (without i (chain ns h)) (chain ns h)
     out_of_first at =
         subst (λ z. Relinked ns ns z (without i (chain ns h)) (chain ns h)) (sym next)
         (stay ns (get_or ns i None) (without i (chain ns h)) (chain ns h) (out_first ns i h (chain ns h) ends m (sym at)))
 
-    module _ (p : ℕ) (at : Some p ≡ last_before (λ k. eqb k i) None (chain ns h)) where
+    module _ (p : ℕ) (at : Some p ≡ last_before (λ k. k == i) None (chain ns h)) where
       pub before-within : p < length ns
       before-within = has_within ns h p (chain ns h) ends (out-behind ns i p h (chain ns h) ends m (sym at)).1
 

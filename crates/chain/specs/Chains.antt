@@ -1,5 +1,5 @@
 -- What a table of links means: its records, and for each head the list of the numbers that the links lead along.
-use Rattle.std.specs.Prelude.{◌≡◌, ℕ, zero, suc, Bool, true, false, cond, not, ◌&&◌, List, [], ◌∷◌, map, length, Some, None, vec_items, Option, ◌==◌, nat_lt, slice_index_or}
+use Rattle.std.specs.Prelude.{◌≡◌, ℕ, zero, suc, Bool, true, false, if◌then◌else◌, not, ◌&&◌, List, [], ◌∷◌, map, length, Some, None, vec_items, Option, ◌==◌, nat_lt, slice_index_or}
 use Rattle.chain.specs.declared.Links.{Links}
 use Rattle.chain.specs.Lists.{has}
 
@@ -49,4 +49,4 @@ pub record Relinked (ns ms : List (Option ℕ)) (h : Option ℕ) (xs touched : L
 -- the last number before the first at which the test holds, or p if it holds at once
 abbrev pub last_before : (ℕ → Bool) → Option ℕ → List ℕ → Option ℕ
 last_before stop p [] = p
-last_before stop p (x ∷ xs) = cond (stop x) p (last_before stop (Some x) xs)
+last_before stop p (x ∷ xs) = if stop x then p else last_before stop (Some x) xs

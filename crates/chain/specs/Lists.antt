@@ -1,11 +1,11 @@
 -- The words in which chains are spoken of: lists of numbers, and of records that have a rank.
 -- A smaller number ranks above. Nothing here names the code, so the rules of every crate can share it.
-use Rattle.std.specs.Prelude.{ℕ, zero, suc, ◌+◌, Bool, true, false, cond, ◌&&◌, ◌||◌, List, [], ◌∷◌, map, Some, None, Option, ◌==◌, nat_le, nat_lt, slice_index}
+use Rattle.std.specs.Prelude.{ℕ, zero, suc, ◌+◌, Bool, true, false, if◌then◌else◌, ◌&&◌, ◌||◌, List, [], ◌∷◌, map, Some, None, Option, ◌==◌, nat_le, nat_lt, slice_index}
 
 -- x goes behind all of equal or higher rank: before the first that ranks below it
 abbrev pub join : {A : Type 0} → (A → ℕ) → A → List A → List A
 join rank x [] = x ∷ []
-join rank x (y ∷ ys) = cond (nat_lt (rank x) (rank y)) (x ∷ y ∷ ys) (y ∷ join rank x ys)
+join rank x (y ∷ ys) = if nat_lt (rank x) (rank y) then x ∷ y ∷ ys else y ∷ join rank x ys
 
 -- the rank of the record with the number k
 abbrev pub rank_in : {A : Type 0} → (A → ℕ) → List A → ℕ → ℕ
@@ -14,7 +14,7 @@ rank_in rank records k = slice_index (map rank records) k
 -- the list without its first i
 abbrev pub without : ℕ → List ℕ → List ℕ
 without i [] = []
-without i (x ∷ xs) = cond (x == i) xs (x ∷ without i xs)
+without i (x ∷ xs) = if x == i then xs else x ∷ without i xs
 
 -- the first, if there is one
 abbrev pub first : {A : Type 0} → List A → Option A
@@ -33,7 +33,7 @@ has i (x ∷ xs) = x == i || has i xs
 
 -- how often k stands in a list
 abbrev pub one : ℕ → ℕ → ℕ
-one k x = cond (k == x) 1 0
+one k x = if k == x then 1 else 0
 
 abbrev pub count : ℕ → List ℕ → ℕ
 count k [] = 0

@@ -2,9 +2,11 @@
 // One rule serves every kind of record: a record goes behind all of equal or higher rank.
 // Several chains share a table. A chain is known by its head, the number of its first record,
 // and means the list of its numbers in order.
+// The heads stand with the owners of the chains, where a ghost field keeps that each chain ends. So the
+// operations ask for that: a table that kept the heads itself would have to be told which one is meant.
 #![tactic(auto)]
 
-ghost use Rattle.std.specs.Prelude.{◌≡◌, ℕ, ◌-◌, ◌<◌, ◌≤◌, Bool, true, false, ltb, ◌∷◌, length, drop, replicate, IfOk, Some, None, nat_eq, nat_le, nat_lt, slice_index_or, slice_set};
+ghost use Rattle.std.specs.Prelude.{◌≡◌, ℕ, ◌-◌, ◌<◌, ◌≤◌, Bool, true, false, ◌∷◌, length, drop, replicate, IfOk, Some, None, ◌==◌, nat_le, nat_lt, slice_index_or, slice_set};
 ghost use Rattle.chain.specs.Chains.{Ends, Relinked, chain, last_before, nexts, records};
 ghost use Rattle.chain.specs.Laws.{Chosen, Linked, TakenOut};
 ghost use Rattle.chain.specs.Lists.{first, has, join, rank_in, rest, rising, without};
@@ -34,7 +36,7 @@ pub trait Ranked {
 }
 
 // A record and the number of the next one.
-#[derive(Drop)]
+#[derive(Clone, Copy, Drop)]
 pub struct Link<R> {
     pub record: R,
     pub next: Option<usize>,
@@ -46,21 +48,47 @@ pub struct Links<R> {
     links: Vec<Link<R>>,
 }
 
+// The numbers of a chain, from its head on.
+#[derive(Drop)]
+pub struct Numbers<'a, R> {
+    links: &'a Links<R>,
+    at: Option<usize>,
+    // what is left of the chain ends
+    ghost ends: { Ends (nexts links.now) at },
+}
+
+impl<R> Iterator for Numbers<'_, R> {
+    ghost use Rattle.chain.specs.Walks.{numbers_left};
+    ghost use Rattle.std.specs.Iterator.{YieldsFirst, item_count};
+
+    type Item = usize;
+
+    ghost next_gives = { YieldsFirst numbers_left };
+
+    ghost remaining = { item_count numbers_left };
+
+    fn next(&mut self) -> Option<usize> {
+        let k = self.at?;
+        self.at = self.links.next_of(k);
+        Some(k)
+    }
+}
+
 impl<R: Copy> Links<R> {
     // `n` links with the same record, which lead nowhere, or an error where memory is wanting.
     pub fn of(heap: Global, n: usize, blank: R) -> Result<Links<R>, AllocError>
         ensures records { IfOk result (λ t. records t ≡ replicate n blank) }
         ensures nexts { IfOk result (λ t. nexts t ≡ replicate n None) }
     {
-        let mut links = Vec::with_capacity(heap, n)?;
-        let mut i = 0;
-        while i < n {
-            links.push_reserved(Link {
+        // `vec!` clones, and it is not said that a clone of an `R` is the same.
+        let mut links = Vec::new(heap);
+        links.resize(
+            n,
+            Link {
                 record: blank,
                 next: None,
-            });
-            i += 1;
-        }
+            },
+        )?;
         Ok(Links { links })
     }
 }
@@ -77,6 +105,8 @@ impl<R: Drop> Links<R> {
 }
 
 impl<R> Links<R> {
+    ghost use Rattle.chain.specs.Walks.{numbers_left};
+
     // The number of links.
     pub fn len(&self) -> usize
         ensures { result ≡ length (nexts self.now) }
@@ -142,12 +172,19 @@ impl<R> Links<R> {
         ensures rest { chain (nexts self.now) head.new ≡ rest (chain (nexts self.now) head.old) }
         ensures laws { Chosen result (chain (nexts self.now) head.old) (chain (nexts self.now) head.new) }
     {
-        match *head {
-            None => None,
-            Some(i) => {
-                *head = self.next_of(i);
-                Some(i)
-            }
+        let i = (*head)?;
+        *head = self.next_of(i);
+        Some(i)
+    }
+
+    // The numbers of the chain, in order.
+    pub fn numbers(&self, head: Option<usize>) -> Numbers<'_, R>
+        requires { Ends (nexts self.now) head }
+        ensures { numbers_left result ≡ chain (nexts self.now) head }
+    {
+        Numbers {
+            links: self,
+            at: head,
         }
     }
 
@@ -156,14 +193,7 @@ impl<R> Links<R> {
         requires { Ends (nexts self.now) head }
         ensures { result ≡ has i (chain (nexts self.now) head) }
     {
-        let mut at = head;
-        while let Some(k) = at {
-            if k == i {
-                return true;
-            }
-            at = self.next_of(k);
-        }
-        false
+        self.numbers(head).any(|k| k == i)
     }
 
     // The number at a place of the chain, counted from 0, if the chain is that long.
@@ -171,33 +201,15 @@ impl<R> Links<R> {
         requires { Ends (nexts self.now) head }
         ensures { result ≡ first (drop place (chain (nexts self.now) head)) }
     {
-        let mut left = place;
-        let mut at = head;
-        while let Some(k) = at {
-            if left == 0 {
-                return Some(k);
-            }
-            left -= 1;
-            at = self.next_of(k);
-        }
-        None
+        self.numbers(head).nth(place)
     }
 
     // The number of the chain that leads to number `i`, or its last if none does.
     fn last_before(&self, head: Option<usize>, i: usize) -> Option<usize>
         requires { Ends (nexts self.now) head }
-        ensures { result ≡ last_before (λ k. nat_eq k i) None (chain (nexts self.now) head) }
+        ensures { result ≡ last_before (λ k. k == i) None (chain (nexts self.now) head) }
     {
-        let mut last = None;
-        let mut at = head;
-        while let Some(k) = at {
-            if k == i {
-                break;
-            }
-            last = at;
-            at = self.next_of(k);
-        }
-        last
+        self.numbers(head).take_while(|&k| k != i).last()
     }
 
     // Takes number `i`, which is on the chain, out of it.
@@ -237,9 +249,7 @@ impl<R> Links<R> {
         ensures records { records self.new ≡ records self.old }
     {
         let mut head = None;
-        let mut i = self.len();
-        while i > 1 {
-            i -= 1;
+        for i in (1..self.len()).rev() {
             self.put_first(&mut head, i);
         }
         head
@@ -259,18 +269,11 @@ impl<R: Ranked> Links<R> {
     fn last_above(&self, head: Option<usize>, i: usize) -> Option<usize>
         requires ends { Ends (nexts self.now) head }
         requires within { i < length (nexts self.now) }
-        ensures { result ≡ last_before (λ k. ltb (rank_in R.Ranked.rank (records self.now) i) (rank_in R.Ranked.rank (records self.now) k)) None (chain (nexts self.now) head) }
+        ensures { result ≡ last_before (λ k. nat_lt (rank_in R.Ranked.rank (records self.now) i) (rank_in R.Ranked.rank (records self.now) k)) None (chain (nexts self.now) head) }
     {
-        let mut last = None;
-        let mut at = head;
-        while let Some(k) = at {
-            if self.ranks_above(i, k) {
-                break;
-            }
-            last = at;
-            at = self.next_of(k);
-        }
-        last
+        self.numbers(head)
+            .take_while(|&k| !self.ranks_above(i, k))
+            .last()
     }
 
     // Puts number `i`, which is not on the chain, behind all of equal or higher rank.

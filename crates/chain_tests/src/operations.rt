@@ -16,12 +16,8 @@ impl<R: Ranked> Desk<R> {
         ensures ready { ready_of self.new ≡ joined (rank_in R.Ranked.rank (records (table_of self.old))) result (ready_of self.old) }
         ensures records { records (table_of self.new) ≡ records (table_of self.old) }
     {
-        match self.links.take_first(&mut self.free) {
-            None => None,
-            Some(i) => {
-                self.links.link_by_rank(&mut self.ready, i);
-                Some(i)
-            }
-        }
+        let i = self.links.take_first(&mut self.free)?;
+        self.links.link_by_rank(&mut self.ready, i);
+        Some(i)
     }
 }

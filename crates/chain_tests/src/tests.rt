@@ -129,13 +129,10 @@ fn link_all<R: Ranked + Sample + Drop>(links: &mut Links<R>) -> Option<usize>
     requires { length (nexts links.old) ≤ 64 }
     ensures { Ends (nexts links.new) result }
 {
-    let n = links.len();
     let mut head = None;
-    let mut i = 0;
-    while i < n {
+    for i in 0..links.len() {
         links.replace(i, R::record(i));
         links.link_by_rank(&mut head, i);
-        i += 1;
     }
     head
 }
@@ -151,10 +148,8 @@ fn links_in_order<R: Ranked + Sample + Copy + Drop>(
     let mut links = Links::of(heap, n, R::record(0))?;
     let mut head = link_all(&mut links);
     assert_eq!(rt; links.number_at(head, n), None);
-    let mut place = 0;
-    while place < n {
+    for place in 0..n {
         assert_eq!(rt; links.take_first(&mut head), Some(R::at(n, place)));
-        place += 1;
     }
     assert_eq!(rt; head, None);
     Ok(())
@@ -199,6 +194,7 @@ fn numbers_leave(rt: HostRuntime) -> Result<(), Fail> {
     assert_eq!(rt; links.number_at(head, 0), Some(2));
     assert_eq!(rt; links.number_at(head, 1), Some(4));
     assert_eq!(rt; links.number_at(head, 2), None);
+    assert_eq!(rt; links.numbers(head).count(), 2);
     Ok(())
 }
 

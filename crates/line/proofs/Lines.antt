@@ -1,5 +1,6 @@
 -- The waiting tasks of a chain, through everything that is done to a line.
-use Rattle.std.proofs.Common.{◌≡◌, ℕ, ◌+◌, ◌<◌, ◌≤◌, true, false, ◌≢◌, List, [], ◌∷◌, map, length, get_or, set, Some, None, Option, sym, refl, ap, ◌∙◌, subst, arith, get_or-set_other, get_or-set_same}
+use Rattle.std.proofs.Common.{◌≡◌, ℕ, ◌+◌, ◌<◌, ◌≤◌, true, false, ◌≢◌, List, [], ◌∷◌, map, length, get_or, set, ◌==◌, Some, None, Option, sym, refl, ap, ◌∙◌, subst, arith, get_or-set_other, get_or-set_same}
+use Rattle.std.specs.List.{find}
 use Rattle.std.proofs.lemmas.List.{get_or-map}
 use Rattle.std.proofs.lemmas.Bool.Decides.{nat_tests}
 use Rattle.chain.specs.declared.Links.{Links}
@@ -134,20 +135,13 @@ module _ {R : Type 0} (none : R) where
 
   -- ── the walk for a key ──
 
-  module _ (a : Links R) (h : Option ℕ) (key : R → ℕ) (k : ℕ) where
-    pub with_end : h ≡ None → first (tasks_with key k (waits none a h)) ≡ None
-    with_end is = ap (λ ws. first (tasks_with key k ws)) (waits_end a h is)
+  key_found : (rs : List R) (key : R → ℕ) (k : ℕ) (xs : List ℕ) → find (λ t. key (get_or rs t none) == k) xs ≡ first (tasks_with key k (map (wait_in none rs) xs))
+  key_found rs key k [] = refl
+  key_found rs key k (x ∷ xs) = let r = key_found rs key k xs in grind (arith, nat_tests)
 
-    module _ (t : ℕ) (is : h ≡ Some t) (ends : Ends (nexts a) h) (x : R) (read : (d : R) → x ≡ get_or (records a) t d) where
-      pub with_here : key x ≡ k → first (tasks_with key k (waits none a h)) ≡ Some t
-      with_here same =
-          let e : key (get_or (records a) t none) ≡ k = ap key (sym (read none)) ∙ same in
-          ap (λ ws. first (tasks_with key k ws)) (waits-cons a h t is ends (get_or (nexts a) t None) refl) ∙ grind (arith, nat_tests)
-
-      pub with_go : key x ≢ k → (n : Option ℕ) → n ≡ get_or (nexts a) t None → first (tasks_with key k (waits none a n)) ≡ first (tasks_with key k (waits none a h))
-      with_go other n next =
-          let e : key (get_or (records a) t none) ≡ key x = ap key (sym (read none)) in
-          sym (ap (λ ws. first (tasks_with key k ws)) (waits-cons a h t is ends n next) ∙ grind (arith, nat_tests))
+  pub with-found : (a : Links R) (h : Option ℕ) (key : R → ℕ) (k : ℕ) → find (λ t. key (get_or (records a) t none) == k) (chain (nexts a) h) ≡ first (tasks_with key k (waits none a h))
+  unfolding waits
+  with-found a h key k = key_found (records a) key k (chain (nexts a) h)
 
 -- ── for callers ──
 

@@ -23,13 +23,11 @@ impl<R: Copy> Line<R> {
     pub fn first(&self) -> Option<Waiting<R>>
         ensures { (none : R) → result ≡ first (list none self.now) }
     {
-        match self.head {
-            None => None,
-            Some(task) => Some(Waiting {
-                task,
-                wait: *self.links.record_at(task),
-            }),
-        }
+        let task = self.head?;
+        Some(Waiting {
+            task,
+            wait: *self.links.record_at(task),
+        })
     }
 }
 
@@ -89,14 +87,9 @@ impl<R: Keyed> Line<R> {
     pub fn first_with(&self, key: usize) -> Option<usize>
         ensures { (none : R) → result ≡ first (tasks_with R.Keyed.key key (list none self.now)) }
     {
-        let mut at = self.head;
-        while let Some(t) = at {
-            if self.links.record_at(t).key() == key {
-                return Some(t);
-            }
-            at = self.links.next_of(t);
-        }
-        None
+        self.links
+            .numbers(self.head)
+            .find(|&t| self.links.record_at(t).key() == key)
     }
 
     // Takes out the first task whose wait has the key, and gives it.
@@ -105,12 +98,8 @@ impl<R: Keyed> Line<R> {
         ensures list { (none : R) → list none self.new ≡ without_first_with R.Keyed.key key (list none self.old) }
         ensures room { room self.new ≡ room self.old }
     {
-        match self.first_with(key) {
-            None => None,
-            Some(t) => {
-                self.leave(t);
-                Some(t)
-            }
-        }
+        let t = self.first_with(key)?;
+        self.leave(t);
+        Some(t)
     }
 }

@@ -1,36 +1,23 @@
--- The walk past all that i goes behind, link by link.
-use Rattle.std.proofs.Common.{ltb, sym, ap, ◌∙◌}
+-- The last number before the walk comes to one that i ranks above.
+use Rattle.std.proofs.Common.{nat_lt, not, rules}
+use borrow.Author.Tests.{tests}
+use Rattle.std.proofs.lemmas.Iterator.Adapters.{serves_from_places}
+use Rattle.std.proofs.lemmas.Iterator.Consumers.{YieldsList-at}
+use Rattle.std.proofs.lemmas.Iterator.Search.{YieldsList-from_take_while}
+use Rattle.chain.specs.Chains.{nexts, records}
 use Rattle.chain.specs.Lists.{rank_in}
-use Rattle.chain.specs.Chains.{nexts, records, last_before}
-use Rattle.chain.proofs.Leads.{first-within, next_ends, next_less, last-go, last-stop, at-end}
+use Rattle.chain.proofs.Walks.{last-before, place-within, walks}
 use Rattle.chain.proofs.Links.last_above.Goals as goal
 
-pub ranks_above-requires : goal.ranks_above-requires
-ranks_above-requires g c = (c.requires.within, first-within (nexts c.args.self.now) c.loop-at.at c.in-Some.k c.in-Some.is c.loop-at.invariant.0)
+pub last-requires-clause-can : goal.last-requires-clause-can
+last-requires-clause-can g c = (
+  tt,
+  serves_from_places (YieldsList-at c.take_while.ensures.source (walks c.numbers.result _ c.numbers.ensures)) (λ x q k. search (rules, tests))
+      (λ x k l is. let b = place-within (nexts c.args.self.now) c.args.head c.requires.ends k x l is in search (rules, tests, b)),
+)
 
-pub next_of-at-requires : goal.next_of-at-requires
-next_of-at-requires g c = first-within (nexts c.args.self.now) c.loop-at.at c.in-Some.k c.in-Some.is c.loop-at.invariant.0
-
-pub loop-at-smaller : goal.loop-at-smaller
-loop-at-smaller g c = next_less (nexts c.args.self.now) c.loop-at.at c.in-Some.k c.in-Some.is c.loop-at.invariant.0 c.next_of-at.result c.next_of-at.ensures
-
-pub loop-at-preserved : goal.loop-at-preserved
-loop-at-preserved g c =
-    let by = rank_in g.R.Ranked.rank (records c.args.self.now) in (
-      next_ends (nexts c.args.self.now) c.loop-at.at c.in-Some.k c.in-Some.is c.loop-at.invariant.0 c.next_of-at.result c.next_of-at.ensures,
-      last-go (nexts c.args.self.now) c.loop-at.at c.in-Some.k c.in-Some.is c.loop-at.invariant.0 c.next_of-at.result c.next_of-at.ensures
-          (λ k. ltb (by c.args.i) (by k)) c.loop-at.last (sym c.ranks_above.ensures ∙ c.if-ranks_above.false)
-          ∙ c.loop-at.invariant.1,
-    )
-
-pub returns-then-ranks_above : goal.returns-then-ranks_above
-returns-then-ranks_above g c =
+pub returns : goal.returns
+returns g c =
     let by = rank_in g.R.Ranked.rank (records c.args.self.now) in
-    sym (last-stop (nexts c.args.self.now) c.loop-at.at c.in-Some.k c.in-Some.is c.loop-at.invariant.0
-    (λ k. ltb (by c.args.i) (by k)) c.loop-at.last (sym c.ranks_above.ensures ∙ c.if-ranks_above.true))
-    ∙ c.loop-at.invariant.1
-
-pub returns-in_default : goal.returns-in_default
-returns-in_default g c =
-    let by = rank_in g.R.Ranked.rank (records c.args.self.now) in
-    sym (ap (last_before (λ k. ltb (by c.args.i) (by k)) c.loop-at.last) (at-end (nexts c.args.self.now) c.loop-at.at c.in_default.is)) ∙ c.loop-at.invariant.1
+    last-before _ (λ k. nat_lt (by c.args.i) (by k)) c.last.result c.last.ensures.ran
+    (YieldsList-from_take_while _ (λ k. not (nat_lt (by c.args.i) (by k))) (YieldsList-at c.take_while.ensures.source (walks c.numbers.result _ c.numbers.ensures)) c.take_while.ensures.closure c.take_while.ensures.done (λ x b q k. search (rules, tests)))

@@ -9,36 +9,29 @@ pub loop-i-init : goal.loop-i-init
 loop-i-init g c =
     let ns = nexts c.args.self.now in
     let n = length ns in
-    let e = c.len-i.ensures in
-    (subst (λ i. Relinked ns ns None (rising i (n - i)) (rising i (n - i))) (sym e) (rising_none ns n), refl, omega arith, omega arith)
-
-pub put_first-requires : goal.put_first-requires
-put_first-requires g c =
-    let l = c.loop-i in
-    let u = l.invariant.0 in
-    let n = length (nexts c.args.self.now) in
     record {
-      ends = u.ends;
-      within = (let s = u.size in let b = l.invariant.2 in omega arith);
-      fresh = rising-fresh (nexts l.self) l.head (l.i - 1) l.i (n - l.i) (omega arith) u.list;
+      links = subst (λ i. Relinked ns ns None (rising i (n - i)) (rising i (n - i))) (sym c.len-i.ensures) (rising_none ns n);
+      records = refl;
+      past = omega arith;
     }
+
+pub put_first-requires-clause-fresh : goal.put_first-requires-clause-fresh
+put_first-requires-clause-fresh g c = let l = c.loop-i in rising-fresh (nexts l.self) l.head (l.i - 1) l.i _ (omega arith) l.invariant.links.list
 
 pub loop-i-preserved : goal.loop-i-preserved
 loop-i-preserved g c =
     let l = c.loop-i in
     let v = c.put_first.ensures in
-    let ns = nexts c.args.self.now in (
-      rising-put ns (nexts l.self) (nexts c.put_first.new.self) l.head c.put_first.new.head (length ns) (l.i - 1) l.i (omega arith) l.invariant.2 l.invariant.0 v.links,
-      v.records ∙ l.invariant.1,
-      (let b = l.invariant.2 in omega arith),
-      (let b = l.invariant.2 in omega arith),
-    )
-
-pub returns : goal.returns
-returns g c =
-    let l = c.loop-i in
     let ns = nexts c.args.self.now in
     record {
-      links = rising-all ns (nexts l.self) l.head (length ns) l.i (omega arith) l.invariant.2 l.invariant.3 l.invariant.0;
-      records = l.invariant.1;
+      links = rising-put ns (nexts l.self) (nexts c.put_first.new.self) l.head c.put_first.new.head (length ns) (l.i - 1) l.i (omega arith) (omega arith) l.invariant.links v.links;
+      records = v.records ∙ l.invariant.records;
+      past = omega arith;
     }
+
+pub returns-clause-links : goal.returns-clause-links
+returns-clause-links g c =
+    let l = c.loop-i in
+    let ns = nexts c.args.self.now in
+    let past = l.invariant.past in
+    rising-all ns (nexts l.self) l.head (length ns) l.i (omega arith) (omega arith) past l.invariant.links

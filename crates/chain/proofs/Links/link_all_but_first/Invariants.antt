@@ -6,10 +6,10 @@ use Rattle.chain.proofs.Links.link_all_but_first.Given as goal
 
 abbrev pub invariant-loop-i : goal.invariant-loop-i
 invariant-loop-i g l =
-    Relinked (nexts l.initial.self) (nexts l.self) l.head (rising l.i (length (nexts l.initial.self) - l.i)) (rising l.i (length (nexts l.initial.self) - l.i))
-    × (records l.self ≡ records l.initial.self)
-    × (l.i ≤ length (nexts l.initial.self))
-    × (length (nexts l.initial.self) ≤ l.i + (length (nexts l.initial.self) - 1))
-
-abbrev pub decreases-loop-i : goal.decreases-loop-i
-decreases-loop-i g l = l.i
+    let ns = nexts l.initial.self in
+    let xs = rising l.i (length ns - l.i) in
+    record {
+      links : Relinked ns (nexts l.self) l.head xs xs;
+      records : records l.self ≡ records l.initial.self;
+      past : length ns ≤ l.i + (length ns - 1);
+    }

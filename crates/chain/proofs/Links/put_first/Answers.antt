@@ -3,8 +3,5 @@ use Rattle.chain.specs.Chains.{nexts}
 use Rattle.chain.proofs.Writes.{put_first}
 use Rattle.chain.proofs.Links.put_first.Goals as goal
 
-pub returns : goal.returns
-returns g c = record {
-  links = put_first (nexts c.args.self.now) c.args.head.now c.args.i c.requires.ends c.requires.within c.requires.fresh (nexts c.lead.new.self) c.lead.ensures.next;
-  records = c.lead.ensures.records;
-}
+pub returns-clause-links : goal.returns-clause-links
+returns-clause-links g c = put_first (nexts c.args.self.now) c.args.head.now c.args.i c.requires.ends c.requires.within c.requires.fresh (nexts c.lead.new.self) c.lead.ensures.next

@@ -1,5 +1,5 @@
 -- Two records compare as their ranks do.
-use Rattle.std.proofs.Common.{leb, ap, ◌∙◌}
+use Rattle.std.proofs.Common.{nat_le, ap, ◌∙◌}
 use Rattle.chain.specs.Lists.{rank_in}
 use Rattle.chain.specs.Chains.{records}
 use Rattle.chain.proofs.Tables.{rank_is, not_behind}
@@ -14,4 +14,4 @@ returns g c =
     let first = rank_is t c.args.i c.requires.0 rank a c.record_at.ensures in
     let second = rank_is t c.args.k c.requires.1 rank b c.record_at-2.ensures in
     not_behind _ _ c.goes_behind.result
-    (c.goes_behind.ensures ∙ g.met.R.Ranked.ranks b a ∙ ap (λ n. leb n (rank a)) second ∙ ap (leb (rank_in rank (records t) c.args.k)) first)
+    (c.goes_behind.ensures ∙ g.met.R.Ranked.ranks b a ∙ ap (λ n. nat_le n (rank a)) second ∙ ap (nat_le (rank_in rank (records t) c.args.k)) first)

@@ -1,10 +1,6 @@
 -- The chain ends at every turn.
-use Rattle.std.proofs.Common.{◌-◌}
 use Rattle.chain.specs.Chains.{Ends, nexts}
 use Rattle.chain_tests.proofs.tests.links_in_order.Given as goal
 
 abbrev pub invariant-loop-place : goal.invariant-loop-place
 invariant-loop-place g l = Ends (nexts l.links) l.head
-
-abbrev pub decreases-loop-place : goal.decreases-loop-place
-decreases-loop-place g l = l.n - l.place

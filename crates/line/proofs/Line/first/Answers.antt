@@ -1,5 +1,5 @@
 -- The first of the chain with its record.
-use Rattle.std.proofs.Common.{sym, ap}
+use Rattle.std.proofs.Common.{sym, ap, ◌∙◌}
 use Rattle.chain.specs.Lists.{first}
 use Rattle.chain.specs.Chains.{nexts}
 use Rattle.chain.proofs.Leads.{first-within}
@@ -7,10 +7,10 @@ use Rattle.line.proofs.Lines.{waits_end, waits-first}
 use Rattle.line.proofs.Line.first.Goals as goal
 
 pub record_at-requires : goal.record_at-requires
-record_at-requires g c = let s = c.args.self.now in first-within (nexts s.links) s.head c.in-Some.task c.in-Some.is s.ends
+record_at-requires g c = let s = c.args.self.now in first-within (nexts s.links) s.head c.in_ok-task.task c.in_ok-task.was s.ends
 
-pub returns-in-None : goal.returns-in-None
-returns-in-None g c none = let s = c.args.self.now in sym (ap first (waits_end none s.links s.head c.in-None.is))
+pub returns-in_err-task : goal.returns-in_err-task
+returns-in_err-task g c none = let s = c.args.self.now in c.from_residual.ensures ∙ sym (ap first (waits_end none s.links s.head c.in_err-task.was))
 
-pub returns-in-Some : goal.returns-in-Some
-returns-in-Some g c none = let s = c.args.self.now in waits-first none s.links s.head c.in-Some.task c.in-Some.is s.ends c.record_at.result.now c.record_at.ensures
+pub returns : goal.returns
+returns g c none = let s = c.args.self.now in waits-first none s.links s.head c.in_ok-task.task c.in_ok-task.was s.ends c.record_at.result.now c.record_at.ensures

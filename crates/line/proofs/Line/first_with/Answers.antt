@@ -1,30 +1,23 @@
--- The walk for a key, link by link.
-use Rattle.std.proofs.Common.{sym, ◌∙◌}
-use Rattle.chain.specs.Chains.{nexts}
-use Rattle.chain.proofs.Leads.{first-within, next_ends, next_less}
-use Rattle.line.proofs.Lines.{with_end, with_go, with_here}
+-- The first task that the walk finds whose wait has the key.
+use Rattle.std.proofs.Common.{◌==◌, get_or, sym, ◌∙◌, rules}
+use borrow.Author.Tests.{tests}
+use Rattle.std.proofs.lemmas.Iterator.Adapters.{option_map_id, serves_from_places}
+use Rattle.std.proofs.lemmas.Iterator.Search.{find_from_yields_List}
+use Rattle.chain.specs.Chains.{nexts, records}
+use Rattle.chain.proofs.Walks.{place-within, walks}
+use Rattle.line.proofs.Lines.{with-found}
 use Rattle.line.proofs.Line.first_with.Goals as goal
 
-pub record_at-requires : goal.record_at-requires
-record_at-requires g c = first-within (nexts c.args.self.now.links) c.loop-at.at c.in-Some.t c.in-Some.is c.loop-at.invariant.0
-
-pub next_of-at-requires : goal.next_of-at-requires
-next_of-at-requires g c = first-within (nexts c.args.self.now.links) c.loop-at.at c.in-Some.t c.in-Some.is c.loop-at.invariant.0
-
-pub loop-at-smaller : goal.loop-at-smaller
-loop-at-smaller g c = next_less (nexts c.args.self.now.links) c.loop-at.at c.in-Some.t c.in-Some.is c.loop-at.invariant.0 c.next_of-at.result c.next_of-at.ensures
-
-pub loop-at-preserved : goal.loop-at-preserved
-loop-at-preserved g c = (
-  next_ends (nexts c.args.self.now.links) c.loop-at.at c.in-Some.t c.in-Some.is c.loop-at.invariant.0 c.next_of-at.result c.next_of-at.ensures,
-  λ none. with_go none c.args.self.now.links c.loop-at.at g.R.Keyed.key c.args.key c.in-Some.t c.in-Some.is c.loop-at.invariant.0 c.record_at.result.now c.record_at.ensures
-      (λ e. c.if-key.false (c.key.ensures ∙ e)) c.next_of-at.result c.next_of-at.ensures ∙ c.loop-at.invariant.1 none,
-)
-
-pub returns-then-key : goal.returns-then-key
-returns-then-key g c none =
-    sym (with_here none c.args.self.now.links c.loop-at.at g.R.Keyed.key c.args.key c.in-Some.t c.in-Some.is c.loop-at.invariant.0 c.record_at.result.now c.record_at.ensures
-    (sym c.key.ensures ∙ c.if-key.true)) ∙ c.loop-at.invariant.1 none
+pub find-requires-clause-callable : goal.find-requires-clause-callable
+find-requires-clause-callable g c =
+    let s = c.args.self.now in
+    serves_from_places (walks c.numbers.result _ c.numbers.ensures) (λ x q k. search (rules, tests))
+    (λ x k l is. let b = place-within (nexts s.links) s.head s.ends k x l is in search (rules, tests, b))
 
 pub returns : goal.returns
-returns g c none = sym (with_end none c.args.self.now.links c.loop-at.at g.R.Keyed.key c.args.key c.in_default.is) ∙ c.loop-at.invariant.1 none
+returns g c none =
+    let s = c.args.self.now in
+    let key = g.R.Keyed.key in
+    sym (option_map_id c.find.result)
+    ∙ find_from_yields_List (λ t. key (get_or (records s.links) t none) == c.args.key) c.find.new.self _ c.find.result c.find.ensures.ran (walks c.numbers.result _ c.numbers.ensures) (λ x b q k. search (rules, tests))
+    ∙ with-found none s.links s.head key c.args.key

@@ -2,11 +2,8 @@
 use Rattle.line.proofs.Lines.{waits-without}
 use Rattle.line.proofs.Line.leave.Goals as goal
 
-pub returns : goal.returns
-returns g c =
+pub returns-clause-list : goal.returns-clause-list
+returns-clause-list g c none =
     let s = c.args.self.now in
     let u = c.take_out in
-    record {
-      list = λ none. waits-without none s.links s.head u.new.self u.new.head c.args.t u.ensures.records u.ensures.links.list;
-      room = u.ensures.links.size;
-    }
+    waits-without none s.links s.head u.new.self u.new.head c.args.t u.ensures.records u.ensures.links.list

@@ -1,6 +1,5 @@
 -- Nobody is on a line that is new.
-use Rattle.std.proofs.Common.{length, None, refl, ap, ◌∙◌}
-use lib.ListN.{length-replicate}
+use Rattle.std.proofs.Common.{None, refl}
 use Rattle.chain.specs.Chains.{nexts}
 use Rattle.chain.proofs.Leads.{ends-none}
 use Rattle.line.proofs.Lines.{waits_end}
@@ -9,8 +8,5 @@ use Rattle.line.proofs.Line.of.Goals as goal
 pub invariant_of-result : goal.invariant_of-result
 invariant_of-result g c = record { ends = ends-none (nexts c.in_ok-links.links) }
 
-pub returns : goal.returns
-returns g c = record {
-  list = λ none. waits_end none c.in_ok-links.links None refl;
-  room = ap length c.in_ok-links.ensures.nexts ∙ length-replicate c.args.n None;
-}
+pub returns-clause-list : goal.returns-clause-list
+returns-clause-list g c none = waits_end none c.in_ok-links.links None refl
