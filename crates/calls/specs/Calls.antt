@@ -1,4 +1,5 @@
 -- Calls with their texts held another way.
+use Rattle.std.specs.Prelude.{◌≡◌, MatchOption, None, Option, Some}
 use Rattle.calls.specs.declared.call.Call.{Call}
 use Rattle.calls.specs.declared.call.Call.TheVariants.{Create, Kill, Suspend, SetLevel, ById, Send, Wait, Delay, Transfer, Look, Tick, Service}
 use Rattle.calls.specs.declared.call.Transfer as transfer
@@ -12,6 +13,13 @@ transfer_with f (moves.Write text) = moves.Write (f text)
 transfer_with f (moves.WriteLine text) = moves.WriteLine (f text)
 transfer_with f (moves.Read size) = moves.Read size
 transfer_with f moves.ReadLine = moves.ReadLine
+
+-- the text of a transfer, if it is a write
+abbrev pub transfer_text : {X : Type 0} → transfer.Transfer X → Option X
+transfer_text (moves.Write text) = Some text
+transfer_text (moves.WriteLine text) = Some text
+transfer_text (moves.Read size) = None
+transfer_text moves.ReadLine = None
 
 -- which transfer it is
 abbrev pub kind_of : {X : Type 0} → transfer.Transfer X → TransferKind
@@ -34,3 +42,23 @@ call_with f (Transfer unit t) = Transfer unit (transfer_with f t)
 call_with f (Look at) = Look at
 call_with f Tick = Tick
 call_with f (Service unit) = Service unit
+
+-- the text of a call, if it is a write
+abbrev pub call_text : {X : Type 0} → Call X → Option X
+call_text (Create id level start message) = None
+call_text Kill = None
+call_text Suspend = None
+call_text (SetLevel level) = None
+call_text (ById id call) = None
+call_text (Send cell message stay) = None
+call_text (Wait cell) = None
+call_text (Delay ticks) = None
+call_text (Transfer unit t) = transfer_text t
+call_text (Look at) = None
+call_text Tick = None
+call_text (Service unit) = None
+
+-- a call or a transfer, of this text, is made into the same with a text that can come of its own; with none, it is the
+-- same whatever is made of a text
+abbrev pub MapsText : {X Y A B : Type 0} → ((X → Y) → A → B) → (X → Y → Type 0) → Option X → A → B → Type 0
+MapsText with makes text from to = MatchOption text ((f : _) → to ≡ with f from) (λ x. (y : _) × makes x y × (to ≡ with (λ _. y) from))

@@ -1,7 +1,8 @@
 -- The numbers by which refusals, stops and outcomes are told.
-use Rattle.std.specs.Prelude.{ℕ, ◌+◌, ◌*◌, Some, None, Ok, Err, Option, Result}
+use Rattle.std.specs.Prelude.{◌≡◌, ℕ, ◌+◌, ◌*◌, Some, None, Ok, Err, Option, Result, MatchResult, ◌≢◌}
 use Rattle.calls.specs.declared.refusal.Refusal.{Refusal}
 use Rattle.calls.specs.declared.refusal.Refusal.TheVariants.{NoTask, NoFreeRecord, IdInUse, NoSuchId, AtUnit, CellFull, NoMessage, NoTicks, NoSuchUnit, BadLength, NoLineEnd, NoRequest, ClockAtEnd, Unlawful, NoClock, OutOfRange, NoRoom}
+use Rattle.calls.specs.declared.refusal.UnknownRefusal.{UnknownRefusal}
 use Rattle.calls.specs.declared.stop.Stop.{Stop}
 use Rattle.calls.specs.declared.stop.Stop.TheVariants as stop
 use Rattle.calls.specs.declared.outcome.Outcome.{Outcome}
@@ -27,6 +28,10 @@ refusal_number Unlawful = 14
 refusal_number NoClock = 15
 refusal_number OutOfRange = 16
 refusal_number NoRoom = 17
+
+-- the refusal that has the number; or the number, which no refusal has
+abbrev pub ByNumber : ℕ → Result Refusal UnknownRefusal → Type 0
+ByNumber number r = MatchResult r (λ x. refusal_number x ≡ number) (λ e. (e.0 ≡ number) × ((x : Refusal) → refusal_number x ≢ number))
 
 -- the number of a stop: that of the refusal that it tells of, or 0 at the end
 abbrev pub stop_number : Stop → ℕ

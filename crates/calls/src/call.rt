@@ -1,10 +1,10 @@
 // The calls: everything that a host can hand to the monitor. `T` is how the text of a write is held: a slice in code,
 // a list of bytes in the definitions.
 
-ghost use Rattle.calls.specs.Calls.{call_with, kind_of, transfer_with};
-ghost use Rattle.std.specs.Prelude.{◌≡◌};
+ghost use Rattle.calls.specs.Calls.{call_text, call_with, kind_of, MapsText, transfer_text, transfer_with};
+ghost use Rattle.std.specs.Prelude.{◌≡◌, IfSome, option_copied};
 
-#[derive(Clone, Copy)]
+#[derive(Clone, Copy, PartialEq, Eq, Debug)]
 pub enum Call<T> {
     // Makes a task; level 0 stands for the caller's level.
     Create {
@@ -53,7 +53,7 @@ pub enum Call<T> {
     },
 }
 
-#[derive(Clone, Copy)]
+#[derive(Clone, Copy, PartialEq, Eq, Debug)]
 pub enum ByIdCall {
     Kill,
     Ready,
@@ -62,7 +62,7 @@ pub enum ByIdCall {
     Status,
 }
 
-#[derive(Clone, Copy)]
+#[derive(Clone, Copy, PartialEq, Eq, Debug)]
 pub enum Transfer<T> {
     Write { text: T },
     // Writes up to the first line end, included.
@@ -81,7 +81,7 @@ pub enum TransferKind {
     ReadLine,
 }
 
-#[derive(Clone, Copy)]
+#[derive(Clone, Copy, PartialEq, Eq, Debug)]
 pub enum LookedAt {
     Message,
     Start,
@@ -89,16 +89,34 @@ pub enum LookedAt {
 }
 
 impl<T: Drop> Transfer<T> {
+    // The text that is written, if it is a write.
+    pub fn text(&self) -> Option<&T>
+        ensures { option_copied result ≡ transfer_text self.now }
+    {
+        match self {
+            Transfer::Write { text } | Transfer::WriteLine { text } => Some(text),
+            Transfer::Read { length: _ } | Transfer::ReadLine => None,
+        }
+    }
+
+    // The same transfer with what `f` makes of its text, if it has one.
+    pub fn map_text<U: Drop, F: FnOnce(T) -> U>(self, f: F) -> Transfer<U>
+        requires { IfSome (transfer_text self) (F.pre f) }
+        ensures { MapsText transfer_with (F.post f) (transfer_text self) self result }
+    {
+        match self {
+            Transfer::Write { text } => Transfer::Write { text: f(text) },
+            Transfer::WriteLine { text } => Transfer::WriteLine { text: f(text) },
+            Transfer::Read { length } => Transfer::Read { length },
+            Transfer::ReadLine => Transfer::ReadLine,
+        }
+    }
+
     // The same transfer with another text in the place of its own, if it has one.
     pub fn with_text<U: Drop>(self, text: U) -> Transfer<U>
         ensures { result ≡ transfer_with (λ _. text) self }
     {
-        match self {
-            Transfer::Write { text: _ } => Transfer::Write { text },
-            Transfer::WriteLine { text: _ } => Transfer::WriteLine { text },
-            Transfer::Read { length } => Transfer::Read { length },
-            Transfer::ReadLine => Transfer::ReadLine,
-        }
+        self.map_text(|_| text)
     }
 
     pub fn kind(&self) -> TransferKind
@@ -114,9 +132,20 @@ impl<T: Drop> Transfer<T> {
 }
 
 impl<T: Drop> Call<T> {
-    // The same call with another text in the place of its own, if it has one.
-    pub fn with_text<U: Drop>(self, text: U) -> Call<U>
-        ensures { result ≡ call_with (λ _. text) self }
+    // The text that is written, if it is a write.
+    pub fn text(&self) -> Option<&T>
+        ensures { option_copied result ≡ call_text self.now }
+    {
+        match self {
+            Call::Transfer { unit: _, transfer } => transfer.text(),
+            _ => None,
+        }
+    }
+
+    // The same call with what `f` makes of its text, if it has one.
+    pub fn map_text<U: Drop, F: FnOnce(T) -> U>(self, f: F) -> Call<U>
+        requires { IfSome (call_text self) (F.pre f) }
+        ensures { MapsText call_with (F.post f) (call_text self) self result }
     {
         match self {
             Call::Create {
@@ -147,11 +176,18 @@ impl<T: Drop> Call<T> {
             Call::Delay { ticks } => Call::Delay { ticks },
             Call::Transfer { unit, transfer } => Call::Transfer {
                 unit,
-                transfer: transfer.with_text(text),
+                transfer: transfer.map_text(f),
             },
             Call::Look { at } => Call::Look { at },
             Call::Tick => Call::Tick,
             Call::Service { unit } => Call::Service { unit },
         }
+    }
+
+    // The same call with another text in the place of its own, if it has one.
+    pub fn with_text<U: Drop>(self, text: U) -> Call<U>
+        ensures { result ≡ call_with (λ _. text) self }
+    {
+        self.map_text(|_| text)
     }
 }

@@ -5,9 +5,10 @@
 mod call;
 mod outcome;
 mod refusal;
+mod show;
 mod stop;
 
 pub use call::{ByIdCall, Call, LookedAt, Transfer, TransferKind};
 pub use outcome::Outcome;
-pub use refusal::Refusal;
+pub use refusal::{Refusal, UnknownRefusal};
 pub use stop::Stop;

@@ -1,61 +1,51 @@
 // The refusals, each with its number and a line of English.
 
-ghost use Rattle.calls.specs.Numbers.{refusal_number};
-ghost use Rattle.std.specs.Prelude.{◌≡◌, MatchOption, ◌≢◌};
+ghost use Rattle.calls.specs.Numbers.{ByNumber, refusal_number};
+ghost use Rattle.std.specs.Prelude.{◌≡◌};
 
+use std::error::Error;
 use std::fmt;
 
 #[derive(Clone, Copy, PartialEq, Eq, Debug)]
 pub enum Refusal {
-    NoTask,
-    NoFreeRecord,
-    IdInUse,
-    NoSuchId,
-    AtUnit,
-    CellFull,
-    NoMessage,
-    NoTicks,
-    NoSuchUnit,
-    BadLength,
-    NoLineEnd,
-    NoRequest,
-    ClockAtEnd,
-    Unlawful,
-    NoClock,
-    OutOfRange,
-    NoRoom,
+    NoTask = 1,
+    NoFreeRecord = 2,
+    IdInUse = 3,
+    NoSuchId = 4,
+    AtUnit = 5,
+    CellFull = 6,
+    NoMessage = 7,
+    NoTicks = 8,
+    NoSuchUnit = 9,
+    BadLength = 10,
+    NoLineEnd = 11,
+    NoRequest = 12,
+    ClockAtEnd = 13,
+    Unlawful = 14,
+    NoClock = 15,
+    OutOfRange = 16,
+    NoRoom = 17,
 }
 
-impl Refusal {
-    pub fn number(&self) -> u8
-        ensures { result ≡ refusal_number self.now }
-    {
-        match self {
-            Refusal::NoTask => 1,
-            Refusal::NoFreeRecord => 2,
-            Refusal::IdInUse => 3,
-            Refusal::NoSuchId => 4,
-            Refusal::AtUnit => 5,
-            Refusal::CellFull => 6,
-            Refusal::NoMessage => 7,
-            Refusal::NoTicks => 8,
-            Refusal::NoSuchUnit => 9,
-            Refusal::BadLength => 10,
-            Refusal::NoLineEnd => 11,
-            Refusal::NoRequest => 12,
-            Refusal::ClockAtEnd => 13,
-            Refusal::Unlawful => 14,
-            Refusal::NoClock => 15,
-            Refusal::OutOfRange => 16,
-            Refusal::NoRoom => 17,
-        }
-    }
+// A number that no refusal has.
+#[derive(Clone, Copy, PartialEq, Eq, Debug)]
+pub struct UnknownRefusal(pub u16);
 
-    // The refusal that has the number.
-    pub fn with_number(number: u16) -> Option<Refusal>
-        ensures { MatchOption result ((x : Refusal) → refusal_number x ≢ number) (λ x. refusal_number x ≡ number) }
-    {
-        Some(match number {
+impl From<Refusal> for u8 {
+    ghost from_gives = { λ refusal n. n ≡ refusal_number refusal };
+
+    fn from(refusal: Refusal) -> u8 {
+        refusal as u8
+    }
+}
+
+impl TryFrom<u16> for Refusal {
+    type Error = UnknownRefusal;
+
+    ghost try_from_gives = { ByNumber };
+
+    fn try_from(number: u16) -> Result<Refusal, UnknownRefusal> {
+        Ok(match number {
             1 => Refusal::NoTask,
             2 => Refusal::NoFreeRecord,
             3 => Refusal::IdInUse,
@@ -73,7 +63,7 @@ impl Refusal {
             15 => Refusal::NoClock,
             16 => Refusal::OutOfRange,
             17 => Refusal::NoRoom,
-            _ => return None,
+            _ => return Err(UnknownRefusal(number)),
         })
     }
 }
@@ -102,3 +92,11 @@ impl fmt::Display for Refusal {
         f.write_str(text)
     }
 }
+
+impl fmt::Display for UnknownRefusal {
+    fn fmt<W: fmt::Write>(&self, f: &mut fmt::Formatter<W>) -> fmt::Result {
+        write!(f, "no refusal has the number {}", self.0)
+    }
+}
+
+impl Error for UnknownRefusal {}

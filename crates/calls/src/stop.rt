@@ -3,6 +3,8 @@
 ghost use Rattle.calls.specs.Numbers.{stop_number};
 ghost use Rattle.std.specs.Prelude.{◌≡◌};
 
+use crate::Refusal;
+
 #[derive(Clone, Copy, PartialEq, Eq, Debug)]
 pub enum Stop {
     // All calls are done.
@@ -14,13 +16,14 @@ pub enum Stop {
 }
 
 impl Stop {
+    // The number of the refusal that the stop tells of, or 0. The place is lost in it, so this is no `From`.
     pub fn number(&self) -> u8
         ensures { result ≡ stop_number self.now }
     {
         match self {
             Stop::End => 0,
-            Stop::Unlawful { place: _ } => 14,
-            Stop::NoRoom => 17,
+            Stop::Unlawful { place: _ } => u8::from(Refusal::Unlawful),
+            Stop::NoRoom => u8::from(Refusal::NoRoom),
         }
     }
 }

@@ -1,5 +1,5 @@
 -- The answers that a draft takes, and what is asked of a generation.
-use Rattle.std.specs.Prelude.{ℕ, Bool, true, false, cond, ◌&&◌, Some, None, Ok, Err, Option, Result, ◌==◌, nat_le}
+use Rattle.std.specs.Prelude.{ℕ, Bool, true, false, if◌then◌else◌, ◌&&◌, Ok, Err, Result, ◌==◌, nat_le}
 use Rattle.calls.specs.declared.refusal.Refusal.{Refusal}
 use Rattle.calls.specs.declared.refusal.Refusal.TheVariants.{OutOfRange}
 use Rattle.generation.specs.declared.ClockRate.{ClockRate}
@@ -26,10 +26,10 @@ lawful_tasks n = nat_le 1 n && nat_le n 64
 
 -- an answer out of range is refused and leaves the draft
 abbrev pub told_tasks : ℕ → Result (Unit {0}) Refusal
-told_tasks n = cond (lawful_tasks n) (Ok tt) (Err OutOfRange)
+told_tasks n = if lawful_tasks n then Ok tt else Err OutOfRange
 
 abbrev pub tasks_after : ℕ → ℕ → ℕ
-tasks_after n before = cond (lawful_tasks n) n before
+tasks_after n before = if lawful_tasks n then n else before
 
 -- each clock rate's number
 abbrev pub rate_number : ClockRate → ℕ
@@ -40,21 +40,22 @@ rate_number Thousand = 3
 rate_number Mains = 4
 
 -- the rate that has a number
-abbrev pub rate_of : ℕ → Option ClockRate
+abbrev pub rate_of : ℕ → Result ClockRate Refusal
 rate_of n =
-    cond (n == rate_number NoClock) (Some NoClock)
-    (cond (n == rate_number Ten) (Some Ten)
-    (cond (n == rate_number Hundred) (Some Hundred)
-    (cond (n == rate_number Thousand) (Some Thousand)
-    (cond (n == rate_number Mains) (Some Mains) None))))
+    if n == rate_number NoClock then Ok NoClock
+    else if n == rate_number Ten then Ok Ten
+    else if n == rate_number Hundred then Ok Hundred
+    else if n == rate_number Thousand then Ok Thousand
+    else if n == rate_number Mains then Ok Mains
+    else Err OutOfRange
 
-abbrev pub told_rate : Option ClockRate → Result (Unit {0}) Refusal
-told_rate None = Err OutOfRange
-told_rate (Some rate) = Ok tt
+abbrev pub told_rate : Result ClockRate Refusal → Result (Unit {0}) Refusal
+told_rate (Ok rate) = Ok tt
+told_rate (Err refusal) = Err refusal
 
-abbrev pub rate_after : Option ClockRate → ClockRate → ClockRate
-rate_after None before = before
-rate_after (Some rate) before = rate
+abbrev pub rate_after : Result ClockRate Refusal → ClockRate → ClockRate
+rate_after (Ok rate) before = rate
+rate_after (Err refusal) before = before
 
 -- whether there is a clock
 abbrev pub ticks : ClockRate → Bool

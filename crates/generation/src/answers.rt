@@ -4,45 +4,42 @@ ghost use Rattle.generation.specs.Answers.{draft_rate, draft_tasks, lawful_tasks
 ghost use Rattle.generation.specs.declared.ClockRate.TheVariants.{Ten};
 ghost use Rattle.std.specs.Prelude.{◌≡◌};
 
-use crate::{ClockRate, Draft, Sealed};
+use crate::{ClockRate, Draft, MOST_TASKS, Sealed};
 use calls::Refusal;
 
 impl ClockRate {
-    // The number by which a draft is answered.
-    pub fn number(&self) -> u8
-        ensures { result ≡ rate_number self.now }
-    {
-        match self {
-            ClockRate::NoClock => 0,
-            ClockRate::Ten => 1,
-            ClockRate::Hundred => 2,
-            ClockRate::Thousand => 3,
-            ClockRate::Mains => 4,
-        }
-    }
-
     // Whether there is a clock.
     pub fn ticks(&self) -> bool
         ensures { result ≡ ticks self.now }
     {
-        match self {
-            ClockRate::NoClock => false,
-            ClockRate::Ten | ClockRate::Hundred | ClockRate::Thousand | ClockRate::Mains => true,
-        }
+        *self != ClockRate::NoClock
+    }
+}
+
+// The number by which a draft is answered.
+impl From<ClockRate> for u8 {
+    ghost from_gives = { λ rate n. n ≡ rate_number rate };
+
+    fn from(rate: ClockRate) -> u8 {
+        rate as u8
     }
 }
 
 // The rate that has the number.
-fn rate_of(number: u8) -> Option<ClockRate>
-    ensures { result ≡ rate_of number }
-{
-    match number {
-        0 => Some(ClockRate::NoClock),
-        1 => Some(ClockRate::Ten),
-        2 => Some(ClockRate::Hundred),
-        3 => Some(ClockRate::Thousand),
-        4 => Some(ClockRate::Mains),
-        _ => None,
+impl TryFrom<u8> for ClockRate {
+    type Error = Refusal;
+
+    ghost try_from_gives = { λ number r. r ≡ rate_of number };
+
+    fn try_from(number: u8) -> Result<ClockRate, Refusal> {
+        match number {
+            0 => Ok(ClockRate::NoClock),
+            1 => Ok(ClockRate::Ten),
+            2 => Ok(ClockRate::Hundred),
+            3 => Ok(ClockRate::Thousand),
+            4 => Ok(ClockRate::Mains),
+            _ => Err(Refusal::OutOfRange),
+        }
     }
 }
 
@@ -64,7 +61,7 @@ impl Draft {
         ensures tasks { draft_tasks self.new ≡ tasks_after tasks (draft_tasks self.old) }
         ensures rate { draft_rate self.new ≡ draft_rate self.old }
     {
-        if tasks < 1 || tasks > 64 {
+        if !(1..=MOST_TASKS).contains(&tasks) {
             return Err(Refusal::OutOfRange);
         }
         self.tasks = tasks;
@@ -77,10 +74,7 @@ impl Draft {
         ensures rate { draft_rate self.new ≡ rate_after (rate_of number) (draft_rate self.old) }
         ensures tasks { draft_tasks self.new ≡ draft_tasks self.old }
     {
-        let Some(rate) = rate_of(number) else {
-            return Err(Refusal::OutOfRange);
-        };
-        self.rate = rate;
+        self.rate = ClockRate::try_from(number)?;
         Ok(())
     }
 

@@ -2,23 +2,27 @@
 // and which a monitor starts from.
 #![tactic(auto)]
 
+ghost use Rattle.generation.specs.declared.TheConstants.{MOST_TASKS};
 ghost use Rattle.std.specs.Prelude.{◌≤◌};
 
 mod answers;
+
+// The most tasks that a generation can have.
+pub const MOST_TASKS: u8 = 64;
 
 // How often the clock ticks.
 #[derive(Clone, Copy, PartialEq, Eq, Debug)]
 pub enum ClockRate {
     // There is no clock.
-    NoClock,
+    NoClock = 0,
     // 10 ticks a second.
-    Ten,
+    Ten = 1,
     // 100 ticks a second.
-    Hundred,
+    Hundred = 2,
     // 1,000 ticks a second.
-    Thousand,
+    Thousand = 3,
     // As the mains.
-    Mains,
+    Mains = 4,
 }
 
 // What has been answered so far.
@@ -27,7 +31,7 @@ pub struct Draft {
     tasks: u8,
     rate: ClockRate,
     ghost some: { 1 ≤ tasks },
-    ghost few: { tasks ≤ 64 },
+    ghost few: { tasks ≤ MOST_TASKS },
 }
 
 // A generation that takes no more answers.
@@ -36,5 +40,5 @@ pub struct Sealed {
     task_count: u8,
     clock_rate: ClockRate,
     ghost some: { 1 ≤ task_count },
-    ghost few: { task_count ≤ 64 },
+    ghost few: { task_count ≤ MOST_TASKS },
 }

@@ -2,21 +2,18 @@
 // its words, its name and arguments), writes each call back and compares, and ends with totals.
 #![tactic(auto)]
 
-mod show;
-
 ghost use Rattle.std.specs.Prelude.{◌<◌, length, IfSome, IfOk};
 
 use calls::Call;
 use files::read_front;
-use show::Shown;
 use std::io;
-use words::{LONGEST_TEXT, Reading, read_call, write_call};
+use words::{LONGEST_TEXT, read_call, write_call};
 
 // The most bytes that the words of a call take: a first word, and data words for 255 bytes of text.
 const LONGEST_CALL: usize = 344;
 
 // What a listing counts.
-#[derive(Clone, Copy)]
+#[derive(Clone, Copy, Default)]
 struct Totals {
     calls: usize,
     words: usize,
@@ -25,12 +22,11 @@ struct Totals {
 }
 
 // The words of a call in hexadecimal digits, each behind a space.
-fn print_words(rt: &HostRuntime, bytes: &[u8]) -> io::Result<()> {
-    let mut rest = bytes;
-    while let [a, b, c, d, more @ ..] = rest {
-        let word = u32::from_be_bytes([*a, *b, *c, *d]);
+fn print_words(rt: &impl Print, bytes: &[u8]) -> io::Result<()> {
+    let (words, _) = bytes.as_chunks::<4>();
+    for word in words {
+        let word = u32::from_be_bytes(*word);
         print!(rt; " {word:08X}")?;
-        rest = more;
     }
     Ok(())
 }
@@ -38,36 +34,41 @@ fn print_words(rt: &HostRuntime, bytes: &[u8]) -> io::Result<()> {
 // Whether a call, written back, comes out as the bytes that it was read from.
 fn comes_out_the_same(call: Call<&[u8]>, from: &[u8], room: &mut [u8]) -> bool {
     match write_call(call, room) {
-        Ok(size) => size == from.len() && size <= room.len() && &room[0..size] == from,
+        Ok(size) => room.get(..size) == Some(from),
         Err(_) => false,
     }
 }
 
 // Prints the line of one call, which was read from `words`.
-fn print_call(rt: &HostRuntime, place: usize, call: Call<&[u8]>, words: &[u8]) -> io::Result<()> {
+fn print_call(rt: &impl Print, place: usize, call: Call<&[u8]>, words: &[u8]) -> io::Result<()> {
     print!(rt; "{place:>5} ")?;
     print_words(rt, words)?;
-    let call = Shown(call);
     println!(rt; "  {call}")
 }
 
-// Prints the line of the first call and counts it; tells the rest, or `None` where no call is.
+// Prints the line of the first call and counts it; tells the rest, or `None` at the end and where no call is.
 fn list_first<'b>(
-    rt: &HostRuntime,
+    rt: &impl Print,
     bytes: &'b [u8],
     totals: &mut Totals,
 ) -> io::Result<Option<&'b [u8]>>
     ensures { IfOk result (λ o. IfSome o (λ rest. length rest.now < length bytes.now)) }
 {
+    let place = totals.words;
     let mut text = [0; LONGEST_TEXT];
-    let Reading::Found { item, rest } = read_call(bytes, &mut text) else {
-        return Ok(None);
+    let (call, rest) = match read_call(bytes, &mut text) {
+        Ok(Some(found)) => found,
+        Ok(None) => return Ok(None),
+        Err(_) => {
+            println!(rt; "{place:>5}  no lawful call begins here")?;
+            return Ok(None);
+        }
     };
     let size = bytes.len() - rest.len();
-    let words = &bytes[0..size];
-    print_call(rt, totals.words, item, words)?;
+    let words = &bytes[..size];
+    print_call(rt, place, call, words)?;
     let mut room = [0; LONGEST_CALL];
-    if !comes_out_the_same(item, words, &mut room) {
+    if !comes_out_the_same(call, words, &mut room) {
         totals.changed = totals.changed.saturating_add(1);
     }
     totals.calls = totals.calls.saturating_add(1);
@@ -76,19 +77,11 @@ fn list_first<'b>(
 }
 
 // Prints a line for each call up to the end or to a place where no call is, and counts.
-fn list(rt: &HostRuntime, bytes: &[u8]) -> io::Result<Totals> {
-    let mut totals = Totals {
-        calls: 0,
-        words: 0,
-        changed: 0,
-    };
+fn list(rt: &impl Print, bytes: &[u8]) -> io::Result<Totals> {
+    let mut totals = Totals::default();
     let mut rest = bytes;
     while let Some(after) = list_first(rt, rest, &mut totals)? {
         rest = after;
-    }
-    if !rest.is_empty() {
-        let place = totals.words;
-        println!(rt; "{place:>5}  no lawful call begins here")?;
     }
     Ok(totals)
 }

@@ -1,11 +1,11 @@
 -- The text lines of a run's report.
-use Rattle.std.specs.Prelude.{ℕ, ◌+◌, ◌/◌, ◌%◌, cond, List, [], ◌∷◌, ◌++◌, codes, decimal, nat_lt}
+use Rattle.std.specs.Prelude.{ℕ, ◌+◌, ◌/◌, ◌%◌, if◌then◌else◌, List, [], ◌∷◌, ◌++◌, codes, decimal, nat_lt}
 use Rattle.std.specs.List.{flat_map}
 use Rattle.words.specs.Heads.{word_bytes}
 
 -- the character of a hexadecimal digit: 0 to 9, then A to F
 abbrev pub hex_digit : ℕ → ℕ
-hex_digit d = cond (nat_lt d 10) (48 + d) (55 + d)
+hex_digit d = if nat_lt d 10 then 48 + d else 55 + d
 
 -- the two digits of a byte
 abbrev pub hex_byte : ℕ → List ℕ

@@ -7,7 +7,7 @@ mod tests {
     use report::{end_line, word_line};
     use std::process::Abort;
     use std::test::Fail;
-    use words::{Answer, LONGEST_TEXT, Reading, read_answer, read_call, write_answer, write_call};
+    use words::{Answer, LONGEST_TEXT, read_answer, read_call, write_answer, write_call};
 
     // A call is written as these bytes, is read from them again, and writing that gives the same bytes.
     fn both_ways(rt: &impl Abort, call: Call<&[u8]>, words: &[u8]) -> Result<(), Fail> {
@@ -18,24 +18,21 @@ mod tests {
         assert!(rt; &out[0..size] == words);
         assert!(rt; out[size..400].iter().copied().max() == Some(0xee) || size == 400);
         let mut text = [0; LONGEST_TEXT];
-        let Reading::Found { item, rest } = read_call(words, &mut text) else {
+        let Some((read, rest)) = read_call(words, &mut text)? else {
             return Err(Fail::new("no call was found"));
         };
+        assert_eq!(rt; read, call);
         assert!(rt; rest.is_empty());
         let mut again = [0xee; 400];
-        assert_eq!(rt; write_call(item, &mut again)?, size);
+        assert_eq!(rt; write_call(read, &mut again)?, size);
         assert!(rt; &again[0..size] == words);
         Ok(())
     }
 
     // No call begins these bytes.
-    fn is_unlawful(words: &[u8]) -> Result<(), Fail> {
+    fn is_unlawful(rt: &impl Abort, words: &[u8]) {
         let mut text = [0; LONGEST_TEXT];
-        match read_call(words, &mut text) {
-            Reading::Unlawful => Ok(()),
-            Reading::End => Err(Fail::new("the end was found")),
-            Reading::Found { item: _, rest: _ } => Err(Fail::new("a call was found")),
-        }
+        assert_eq!(rt; read_call(words, &mut text), Err(Refusal::Unlawful));
     }
 
     // Every kind and sub-kind of one word, at the limits of its fields.
@@ -171,7 +168,7 @@ mod tests {
     // A word and the bits that it names: a change of any other bit makes it unlawful, or another call in the rows
     // where the sub-kind is what changes.
     #[test]
-    fn unnamed_bits() -> Result<(), Fail> {
+    fn unnamed_bits(rt: HostRuntime) {
         let table: [(u32, u32); 15] = [
             (0x2000_0000, 0xff00_0000),
             (0x2100_0000, 0xff00_0000),
@@ -193,16 +190,15 @@ mod tests {
             for bit in 0..32u32 {
                 let flip = 1u32 << bit;
                 if named & flip == 0 {
-                    is_unlawful(&(word ^ flip).to_be_bytes())?;
+                    is_unlawful(&rt, &(word ^ flip).to_be_bytes());
                 }
             }
         }
-        Ok(())
     }
 
     // Kinds that are never calls, sub-kinds past the last, data words astray or missing, and odd bytes.
     #[test]
-    fn unlawful_words() -> Result<(), Fail> {
+    fn unlawful_words(rt: HostRuntime) {
         let words: [u32; 17] = [
             0x0000_0000,
             0x0000_0041,
@@ -223,17 +219,17 @@ mod tests {
             0x8103_0004,
         ];
         for word in words {
-            is_unlawful(&word.to_be_bytes())?;
+            is_unlawful(&rt, &word.to_be_bytes());
         }
-        is_unlawful(b"\x20")?;
-        is_unlawful(b"\x20\x00\x00")?;
-        is_unlawful(b"\x10\x05\x0a\x00\x00\x00\x02\x00")?;
-        is_unlawful(b"\x10\x05\x0a\x00\x00\x00\x02\x00\x00\x01\x00\x07")?;
-        is_unlawful(b"\x10\x05\x0a\x00\x10\x00\x02\x00\x00\x00\x00\x07")?;
-        is_unlawful(b"\x80\x03\x00\x01\x00\x41\x00\x01")?;
-        is_unlawful(b"\x80\x03\x00\x02\x00\x41\x42\x01")?;
-        is_unlawful(b"\x80\x03\x00\x01\x10\x41\x00\x00")?;
-        is_unlawful(b"\x80\x03\x00\x04\x00\x41\x42\x43\x00\x44\x00")
+        is_unlawful(&rt, b"\x20");
+        is_unlawful(&rt, b"\x20\x00\x00");
+        is_unlawful(&rt, b"\x10\x05\x0a\x00\x00\x00\x02\x00");
+        is_unlawful(&rt, b"\x10\x05\x0a\x00\x00\x00\x02\x00\x00\x01\x00\x07");
+        is_unlawful(&rt, b"\x10\x05\x0a\x00\x10\x00\x02\x00\x00\x00\x00\x07");
+        is_unlawful(&rt, b"\x80\x03\x00\x01\x00\x41\x00\x01");
+        is_unlawful(&rt, b"\x80\x03\x00\x02\x00\x41\x42\x01");
+        is_unlawful(&rt, b"\x80\x03\x00\x01\x10\x41\x00\x00");
+        is_unlawful(&rt, b"\x80\x03\x00\x04\x00\x41\x42\x43\x00\x44\x00");
     }
 
     // Words with data words.
@@ -345,18 +341,17 @@ mod tests {
         let bytes =
             b"\x10\x05\x0a\x00\x00\x00\x02\x00\x00\x00\x00\x07\x83\x00\x00\x00\x90\x00\x00\x00\x90\x00\x00\x00\xb2\x00\x00\x00\x20\x00\x00\x00\x20\x00\x00\x00\x20\x00\x00\x00";
         let sizes = [12, 4, 4, 4, 4, 4, 4, 4];
-        let mut at = 0;
+        let mut rest: &[u8] = bytes;
         for size in sizes {
-            assert!(rt; at <= 40);
             let mut text = [0; LONGEST_TEXT];
-            let Reading::Found { item: _, rest } = read_call(&bytes[at..40], &mut text) else {
+            let Some((_, after)) = read_call(rest, &mut text)? else {
                 return Err(Fail::new("no call was found"));
             };
-            assert!(rt; rest.len() <= 40);
-            at = 40 - rest.len();
-            assert!(rt; at >= size);
+            assert_eq!(rt; after.len() + size, rest.len());
+            rest = after;
         }
-        assert_eq!(rt; at, 40);
+        let mut text = [0; LONGEST_TEXT];
+        assert_eq!(rt; read_call(rest, &mut text), Ok(None));
         Ok(())
     }
 
@@ -368,25 +363,21 @@ mod tests {
         text: &[u8],
         words: &[u8],
     ) -> Result<(), Fail> {
+        let answer = Answer {
+            running,
+            reply,
+            text,
+        };
         let mut out = [0; 48];
-        let size = write_answer(
-            Answer {
-                running,
-                reply,
-                text,
-            },
-            &mut out,
-        )?;
+        let size = write_answer(answer, &mut out)?;
         assert!(rt; size <= 48);
         assert!(rt; &out[0..size] == words);
         let mut room = [0; LONGEST_TEXT];
-        let Reading::Found { item, rest } = read_answer(words, &mut room) else {
+        let Some((read, rest)) = read_answer(words, &mut room)? else {
             return Err(Fail::new("no answer was found"));
         };
         assert!(rt; rest.is_empty());
-        assert_eq!(rt; item.running, running);
-        assert_eq!(rt; item.reply, reply);
-        assert!(rt; item.text == text);
+        assert_eq!(rt; read, answer);
         Ok(())
     }
 
@@ -428,26 +419,23 @@ mod tests {
         Ok(())
     }
 
-    fn no_answer(words: &[u8]) -> Result<(), Fail> {
+    // No answer begins these bytes.
+    fn no_answer(rt: &impl Abort, words: &[u8]) {
         let mut room = [0; LONGEST_TEXT];
-        match read_answer(words, &mut room) {
-            Reading::Unlawful => Ok(()),
-            Reading::End => Err(Fail::new("the end was found")),
-            Reading::Found { item: _, rest: _ } => Err(Fail::new("an answer was found")),
-        }
+        assert_eq!(rt; read_answer(words, &mut room), Err(Refusal::Unlawful));
     }
 
     #[test]
-    fn unlawful_answers() -> Result<(), Fail> {
-        no_answer(b"\x20\x00\x00\x00")?;
-        no_answer(b"\xc1\x00\x00\x00")?;
-        no_answer(b"\xd0\x00\x00\x00")?;
-        no_answer(b"\xd0\x00\x00\x12")?;
-        no_answer(b"\x00A\r\x00")?;
-        no_answer(b"\xc0\x00\x25\x02\x00A\r\x01")?;
-        no_answer(b"\xc0\x00\x25\x00\x00A\r\x00")?;
-        no_answer(b"\xd0\x00\x00\x01\x00A\r\x00")?;
-        no_answer(b"\xc0\x00\x00")
+    fn unlawful_answers(rt: HostRuntime) {
+        no_answer(&rt, b"\x20\x00\x00\x00");
+        no_answer(&rt, b"\xc1\x00\x00\x00");
+        no_answer(&rt, b"\xd0\x00\x00\x00");
+        no_answer(&rt, b"\xd0\x00\x00\x12");
+        no_answer(&rt, b"\x00A\r\x00");
+        no_answer(&rt, b"\xc0\x00\x25\x02\x00A\r\x01");
+        no_answer(&rt, b"\xc0\x00\x25\x00\x00A\r\x00");
+        no_answer(&rt, b"\xd0\x00\x00\x01\x00A\r\x00");
+        no_answer(&rt, b"\xc0\x00\x00");
     }
 
     // The lines of the worked example: an answer word and the last line.

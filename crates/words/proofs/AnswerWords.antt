@@ -8,8 +8,7 @@ use Rattle.words.specs.Answers.{answer_words, Lawful, Named, OneAnswer, reply_si
 use Rattle.words.specs.Format.{text_words}
 use Rattle.words.specs.Heads.{word_bytes}
 use Rattle.words.specs.declared.parts.Answer.{Answer}
-use Rattle.words.specs.declared.reading.Reading.{Reading}
-use Rattle.words.specs.declared.reading.Reading.TheVariants as found
+use Rattle.words.specs.Reading.{Reading}
 use Rattle.words.proofs.CallWords.{same_number, same_text, split-same}
 use Rattle.words.proofs.Texts.{length-text}
 
@@ -86,7 +85,7 @@ following rest (x ∷ []) more n e k f = ⊎_elim (λ z. absurd (omega arith)) (
 following rest (x ∷ y ∷ []) more n e k f = ⊎_elim (λ z. absurd (omega arith)) (λ z. z ∙ ap (λ b. cond b n 0) (sym (ap starts_data e))) k
 following rest (x ∷ y ∷ z' ∷ t) more n e k f = ⊎_elim (λ z. absurd (omega arith)) (λ z. z ∙ ap (λ b. cond b n 0) (sym (ap starts_data e))) k
 
-answer-same : (r s : Option ℕ) (p q : Result ℕ Refusal) (t u x y : List ℕ) → r ≡ s → p ≡ q → t ≡ u → x ≡ y → ◌≡◌ {A = Reading (Answer (List ℕ)) (List ℕ)} (found.Found (record { running = s; reply = q; text = u }) y) (found.Found (record { running = r; reply = p; text = t }) x)
+answer-same : (r s : Option ℕ) (p q : Result ℕ Refusal) (t u x y : List ℕ) → r ≡ s → p ≡ q → t ≡ u → x ≡ y → ◌≡◌ {A = Reading (Answer (List ℕ)) (List ℕ)} (Ok (Some (record { running = s; reply = q; text = u }, y))) (Ok (Some (record { running = r; reply = p; text = t }, x)))
 answer-same r s p q t u x y a b c d = cc
 
 -- one answer stands at the front: its reply is the word's, and its text is as long as shows
@@ -101,14 +100,14 @@ one-text a more bytes rest after text w r p l f e b q n t k =
     (same.0, same.1, both.0, both.1)
 
 pub one_answer : OneAnswer
-one_answer a rest found.End l f r =
+one_answer a rest (Ok None) l f r =
     let n = ap length r in
     let k = reply_length a.running a.reply in
     let p = length-append (answer_words a) rest in
     let q = length-append (reply_word a.running a.reply) (text_words a.text) in
     absurd (omega arith)
-one_answer a rest found.Unlawful l f r = absurd (r.1 a rest l f refl)
-one_answer a rest (found.Found b more) l f r =
+one_answer a rest (Err refusal) l f r = absurd (r.2 a rest l f refl)
+one_answer a rest (Ok (Some (b, more))) l f r =
     let w = reply_word b.running b.reply in
     let s = begins a rest w (text_words b.text ++ more) (reply_length b.running b.reply) (r.0 ∙ append_assoc w (text_words b.text) more) in
     let same = same_reply a.running b.running a.reply b.reply l.named r.1.named s.0 in

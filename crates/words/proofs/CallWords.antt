@@ -1,6 +1,6 @@
 -- The words of a call: its first word, and what its data words tell.
 use Rattle.std.proofs.Common.{◌≡◌, ℕ, ◌/◌, ◌%◌, ◌<◌, ◌≤◌, ◌⊎◌, List, [], ◌∷◌, ◌++◌, length, Some, None, Ok, Err, Option, sym, refl, ap, ◌∙◌, inl, inr, ⊎_elim, append_assoc, arith, MatchOption}
-use Rattle.calls.specs.Calls.{call_with}
+use Rattle.calls.specs.Calls.{call_text, call_with, MapsText}
 use Rattle.calls.specs.declared.call.Call.{Call}
 use Rattle.calls.specs.declared.call.Call.TheVariants.{Create, Kill, Suspend, SetLevel, ById, Send, Wait, Delay, Transfer, Look, Tick, Service}
 use Rattle.calls.specs.declared.call.Transfer.TheVariants as moves
@@ -9,11 +9,9 @@ use Rattle.calls.specs.declared.refusal.Refusal.TheVariants.{NoRoom}
 use Rattle.std.proofs.lemmas.Bool.Decides.{nat_tests}
 use Rattle.words.specs.Format.{call_words, data_word, data_words, first_word, text_words}
 use Rattle.words.specs.Heads.{bare}
-use Rattle.words.specs.Reading.{CreateRead, OneCall, ReadsCall, Shorter, Writable}
+use Rattle.words.specs.Reading.{CreateRead, OneCall, Reading, ReadsCall, Shorter, Writable}
 use Rattle.words.specs.Text.{text_length}
 use Rattle.words.specs.Writing.{told_call, told_writing, words_size}
-use Rattle.words.specs.declared.reading.Reading.{Reading}
-use Rattle.words.specs.declared.reading.Reading.TheVariants.{End, Unlawful, Found}
 use Rattle.words.proofs.FirstWords.{about_head, same_head}
 use Rattle.words.proofs.Texts.{length-text}
 
@@ -84,21 +82,19 @@ filled (Service unit) text b other k = (refl, ap text_words (sym (nil_from_lengt
 
 -- one text put in after another way of holding it
 pub with_with : {X Y Z : Type 0} (f : Y → Z) (g : X → Y) (c : Call X) → call_with f (call_with g c) ≡ call_with (λ x. f (g x)) c
-with_with f g (Create id level start message) = refl
-with_with f g Kill = refl
-with_with f g Suspend = refl
-with_with f g (SetLevel level) = refl
-with_with f g (ById id call) = refl
-with_with f g (Send cell message stay) = refl
-with_with f g (Wait cell) = refl
-with_with f g (Delay ticks) = refl
 with_with f g (Transfer unit (moves.Write text)) = refl
 with_with f g (Transfer unit (moves.WriteLine text)) = refl
 with_with f g (Transfer unit (moves.Read size)) = refl
 with_with f g (Transfer unit moves.ReadLine) = refl
-with_with f g (Look at) = refl
-with_with f g Tick = refl
-with_with f g (Service unit) = refl
+with_with f g c = refl
+
+-- what maps a text as f does makes the call with f of its text
+pub mapped : {X Y : Type 0} (f : X → Y) (makes : X → Y → Type 0) (c : Call X) (d : Call Y) → ((x : X) (y : Y) → makes x y → y ≡ f x) → MapsText call_with makes (call_text c) c d → d ≡ call_with f c
+mapped f makes (Transfer unit (moves.Write text)) d h m = let e = h text m.0 m.1 in let k = m.2 in cc
+mapped f makes (Transfer unit (moves.WriteLine text)) d h m = let e = h text m.0 m.1 in let k = m.2 in cc
+mapped f makes (Transfer unit (moves.Read size)) d h m = m f
+mapped f makes (Transfer unit moves.ReadLine) d h m = m f
+mapped f makes c d h m = m f
 
 -- reading ─────────────────────────────────────────────────────────────────────────────────────────────────────────
 
@@ -206,19 +202,19 @@ same_data c d more rest b e =
     (data_of c)
 
 pub shorter : (bytes : List ℕ) (r : Reading (Call (List ℕ)) (List ℕ)) → ReadsCall bytes r → Shorter bytes r
-shorter bytes End r = tt
-shorter bytes Unlawful r = tt
-shorter bytes (Found c rest) r =
-    let k = (about_head (call_with length c)).0 in
+shorter bytes (Ok None) r = tt
+shorter bytes (Err refusal) r = tt
+shorter bytes (Ok (Some found)) r =
+    let k = (about_head (call_with length found.0)).0 in
     let l = ap length r.0 in
-    let m = length-append (call_words c) rest in
-    let n = length-append (first_word (call_with length c)) (data_words c) in
+    let m = length-append (call_words found.0) found.1 in
+    let n = length-append (first_word (call_with length found.0)) (data_words found.0) in
     omega arith
 
-pub one-call : OneCall
-one-call c rest End r = absurd (too_short [] (omega arith) c rest (sym r))
-one-call c rest Unlawful r = absurd (r.1 c rest refl)
-one-call c rest (Found d more) r =
+pub one_call : OneCall
+one_call c rest (Ok None) r = absurd (too_short [] (omega arith) c rest (sym r))
+one_call c rest (Err refusal) r = absurd (r.2 c rest refl)
+one_call c rest (Ok (Some (d, more))) r =
     let four = first_word (call_with length d) in
     let n = (about_head (call_with length d)).0 in
     let p = begins c rest four (data_words d ++ more) n (r.0 ∙ append_assoc four (data_words d) more) in

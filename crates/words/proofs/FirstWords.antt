@@ -7,6 +7,7 @@ use Rattle.calls.specs.declared.call.LookedAt.TheVariants as field
 use Rattle.calls.specs.declared.call.Transfer.TheVariants as moves
 use Rattle.words.specs.Format.{first_word, length_in}
 use Rattle.words.specs.Heads.{bare, likely, likely_of, word_bytes}
+use Rattle.words.specs.Kinds.{numbered_kind}
 
 -- numbers with the same bytes are the same
 pub bytes_same : (v w : ℕ) → v < 4294967296 → w < 4294967296 → word_bytes v ≡ word_bytes w → v ≡ w
@@ -23,7 +24,7 @@ likely_by [] = None
 likely_by (a ∷ []) = None
 likely_by (a ∷ b ∷ []) = None
 likely_by (a ∷ b ∷ c ∷ []) = None
-likely_by (a ∷ b ∷ c ∷ d ∷ rest) = likely (a / 16) (a % 16) b c d
+likely_by (a ∷ b ∷ c ∷ d ∷ rest) = likely (numbered_kind (a / 16)) (a % 16) b c d
 
 by_bytes : (w : ℕ) → likely_of w ≡ likely_by (word_bytes w)
 by_bytes w = let k : w / 268435456 ≡ w / 16777216 / 16 = omega arith in cc

@@ -2,10 +2,10 @@
 use Rattle.std.specs.Prelude.{◌≡◌, ℕ, ◌%◌, Bool, false, ◌⊎◌, List, [], ◌∷◌, ◌++◌, length, Some, None, Ok, Err, Option, Result, ◌≢◌, nat_lt}
 use Rattle.calls.specs.Numbers.{refusal_number}
 use Rattle.calls.specs.declared.refusal.Refusal.{Refusal}
+use Rattle.calls.specs.declared.refusal.Refusal.TheVariants.{Unlawful}
 use Rattle.words.specs.Format.{text_words, word_with}
 use Rattle.words.specs.declared.parts.Answer.{Answer}
-use Rattle.words.specs.declared.reading.Reading.{Reading}
-use Rattle.words.specs.declared.reading.Reading.TheVariants.{End, Unlawful, Found}
+use Rattle.words.specs.Reading.{Reading}
 
 -- an answer with f of its text
 abbrev pub answer_with : {X Y : Type 0} → (X → Y) → Answer X → Answer Y
@@ -44,13 +44,13 @@ abbrev pub starts_data : List ℕ → Bool
 starts_data [] = false
 starts_data (b ∷ bs) = nat_lt b 16
 
--- nothing is there; or what is there begins with the words of no answer; or it is the words of the answer, with all
--- data words that belong to it, and the rest
+-- nothing is there; or what is there is the words of the answer, with all data words that belong to it, and the rest; or
+-- it begins with the words of no answer, and is refused as unlawful
 abbrev pub ReadsAnswer : List ℕ → Reading (Answer (List ℕ)) (List ℕ) → Type 0
-ReadsAnswer bytes End = bytes ≡ []
-ReadsAnswer bytes Unlawful = (bytes ≢ []) × ((a : Answer (List ℕ)) (rest : List ℕ) → Lawful a → starts_data rest ≡ false → bytes ≢ answer_words a ++ rest)
-ReadsAnswer bytes (Found a rest) = (bytes ≡ answer_words a ++ rest) × Lawful a × (starts_data rest ≡ false)
+ReadsAnswer bytes (Ok None) = bytes ≡ []
+ReadsAnswer bytes (Ok (Some found)) = (bytes ≡ answer_words found.0 ++ found.1) × Lawful found.0 × (starts_data found.1 ≡ false)
+ReadsAnswer bytes (Err refusal) = (refusal ≡ Unlawful) × (bytes ≢ []) × ((a : Answer (List ℕ)) (rest : List ℕ) → Lawful a → starts_data rest ≡ false → bytes ≢ answer_words a ++ rest)
 
 -- the words of a lawful answer are read as that answer
 abbrev pub OneAnswer : Type 0
-OneAnswer = (a : Answer (List ℕ)) (rest : List ℕ) (r : Reading (Answer (List ℕ)) (List ℕ)) → Lawful a → starts_data rest ≡ false → ReadsAnswer (answer_words a ++ rest) r → r ≡ Found a rest
+OneAnswer = (a : Answer (List ℕ)) (rest : List ℕ) (r : Reading (Answer (List ℕ)) (List ℕ)) → Lawful a → starts_data rest ≡ false → ReadsAnswer (answer_words a ++ rest) r → r ≡ Ok (Some (a, rest))

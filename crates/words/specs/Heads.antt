@@ -5,6 +5,9 @@ use Rattle.calls.specs.declared.call.Call.{Call}
 use Rattle.calls.specs.declared.call.Call.TheVariants.{Create, Kill, Suspend, SetLevel, ById, Send, Wait, Delay, Transfer, Look, Tick, Service}
 use Rattle.calls.specs.declared.call.LookedAt.TheVariants as field
 use Rattle.calls.specs.declared.call.Transfer.TheVariants as moves
+use Rattle.words.specs.Kinds.{numbered_kind}
+use Rattle.words.specs.declared.kind.Kind.{Kind}
+use Rattle.words.specs.declared.kind.Kind.TheVariants as kind
 
 -- the bytes of a 32-bit number, the highest first
 abbrev pub word_bytes : ℕ → List ℕ
@@ -26,8 +29,8 @@ bare Tick = Tick
 bare (Service unit) = Service unit
 
 -- the parts of a word
-abbrev pub kind_of : ℕ → ℕ
-kind_of w = w / 268435456
+abbrev pub kind_of : ℕ → Option Kind
+kind_of w = numbered_kind (w / 268435456)
 
 abbrev pub sub_of : ℕ → ℕ
 sub_of w = w / 16777216 % 16
@@ -69,18 +72,21 @@ look_call sub =
     (cond (sub == 1) (Some (Look field.Start))
     (cond (sub == 2) (Some (Look field.Outcome)) None))
 
-abbrev pub likely : ℕ → ℕ → ℕ → ℕ → ℕ → Option (Call ℕ)
-likely kind sub high middle low =
-    cond (kind == 1) (Some (Create high middle 0 0))
-    (cond (kind == 2) (own_call sub low)
-    (cond (kind == 3) (by_id_call sub middle low)
-    (cond (kind == 5) (Some (Send high (middle * 256 + low) (sub == 1)))
-    (cond (kind == 6) (Some (Wait high))
-    (cond (kind == 7) (Some (Delay (middle * 256 + low)))
-    (cond (kind == 8) (transfer_call sub high low)
-    (cond (kind == 9) (Some (Service high))
-    (cond (kind == 10) (Some Tick)
-    (cond (kind == 11) (look_call sub) None)))))))))
+abbrev pub likely : Option Kind → ℕ → ℕ → ℕ → ℕ → Option (Call ℕ)
+likely None sub high middle low = None
+likely (Some kind.Data) sub high middle low = None
+likely (Some kind.Create) sub high middle low = Some (Create high middle 0 0)
+likely (Some kind.Own) sub high middle low = own_call sub low
+likely (Some kind.ById) sub high middle low = by_id_call sub middle low
+likely (Some kind.Send) sub high middle low = Some (Send high (middle * 256 + low) (sub == 1))
+likely (Some kind.Wait) sub high middle low = Some (Wait high)
+likely (Some kind.Delay) sub high middle low = Some (Delay (middle * 256 + low))
+likely (Some kind.Transfer) sub high middle low = transfer_call sub high low
+likely (Some kind.Service) sub high middle low = Some (Service high)
+likely (Some kind.Tick) sub high middle low = Some Tick
+likely (Some kind.Look) sub high middle low = look_call sub
+likely (Some kind.Granted) sub high middle low = None
+likely (Some kind.Refused) sub high middle low = None
 
 abbrev pub likely_of : ℕ → Option (Call ℕ)
 likely_of w = likely (kind_of w) (sub_of w) (high_of w) (middle_of w) (low_of w)

@@ -1,5 +1,6 @@
 -- What the word format means.
 pub mod Format
+pub mod Kinds
 pub mod Heads
 pub mod Text
 pub mod Reading

@@ -2,12 +2,11 @@
 use Rattle.std.specs.Prelude.{ℕ, ◌+◌, ◌*◌, ◌/◌, cond, List, ◌++◌, length, take, drop, Ok, Err, Result, nat_lt}
 use Rattle.calls.specs.Calls.{call_with}
 use Rattle.calls.specs.declared.call.Call.{Call}
-use Rattle.calls.specs.declared.call.Call.TheVariants.{Create, Kill, Suspend, SetLevel, ById, Send, Wait, Delay, Transfer, Look, Tick, Service}
-use Rattle.calls.specs.declared.call.Transfer as transfer
-use Rattle.calls.specs.declared.call.Transfer.TheVariants as moves
+use Rattle.calls.specs.declared.call.Call.TheVariants.{Create}
 use Rattle.calls.specs.declared.refusal.Refusal.{Refusal}
 use Rattle.calls.specs.declared.refusal.Refusal.TheVariants.{BadLength, NoRoom}
 use Rattle.words.specs.Format.{call_words, length_in}
+use Rattle.words.specs.Text.{text_length}
 
 -- bytes laid over others, from a place on
 abbrev pub laid : ℕ → List ℕ → List ℕ → List ℕ
@@ -26,23 +25,7 @@ abbrev pub left_by : Result ℕ Refusal → List ℕ → List ℕ → List ℕ
 left_by (Ok n) words out = words ++ drop n out
 left_by (Err refusal) words out = out
 
--- how many bytes the words of a call take
-abbrev pub transfer_size : transfer.Transfer ℕ → ℕ
-transfer_size (moves.Write size) = 4 + (size + 2) / 3 * 4
-transfer_size (moves.WriteLine size) = 4 + (size + 2) / 3 * 4
-transfer_size (moves.Read size) = 4
-transfer_size moves.ReadLine = 4
-
+-- how many bytes the words of a call take: a first word, and the data words of a create or of a text
 abbrev pub words_size : Call ℕ → ℕ
 words_size (Create id level start message) = 12
-words_size Kill = 4
-words_size Suspend = 4
-words_size (SetLevel level) = 4
-words_size (ById id call) = 4
-words_size (Send cell message stay) = 4
-words_size (Wait cell) = 4
-words_size (Delay ticks) = 4
-words_size (Look at) = 4
-words_size Tick = 4
-words_size (Service unit) = 4
-words_size (Transfer unit t) = transfer_size t
+words_size c = 4 + (text_length c + 2) / 3 * 4

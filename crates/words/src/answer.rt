@@ -7,33 +7,21 @@ ghost use Rattle.words.specs.Heads.{word_bytes};
 ghost use Rattle.words.specs.Reading.{reading_with};
 ghost use Rattle.words.specs.Writing.{laid, left_by, told_writing};
 
-use crate::heads::word_with;
+use crate::kind::Kind;
 use crate::parts::Answer;
-use crate::read::front;
-use crate::reading::Reading;
 use crate::text::{LONGEST_TEXT, read_text};
-use crate::word::{high, kind, number, sub_kind, take_word};
-use crate::write::{put_text, put_word};
+use crate::word::{high, kind, number, sub_kind, take_word, word_with};
+use crate::write::{put_text, put_word, text_size};
 use calls::Refusal;
+
+// What stands in the place of the running record where none runs.
+const NO_RECORD: u8 = 255;
 
 // Whether the bytes begin with a data word.
 fn starts_data(bytes: &[u8]) -> bool
     ensures { result ≡ starts_data bytes.now }
 {
-    match bytes {
-        [first, ..] => *first < 16,
-        [] => false,
-    }
-}
-
-// How many bytes of text a reply can have: the outcome of a read tells the bytes moved in bits 6 to 0.
-fn reply_size(reply: Result<u16, Refusal>) -> usize
-    ensures { result ≡ reply_size reply }
-{
-    match reply {
-        Ok(value) => (value % 128) as usize,
-        Err(_) => 0,
-    }
+    bytes.first().is_some_and(|first| *first < 16)
 }
 
 // The reply that a word is.
@@ -43,110 +31,77 @@ fn reply_of(word: u32) -> Option<(Option<u8>, Result<u16, Refusal>)>
     if sub_kind(word) != 0 {
         return None;
     }
-    let running = if high(word) == 255 {
-        None
-    } else {
-        Some(high(word))
+    let reply = match kind(word)? {
+        Kind::Granted => Ok(number(word)),
+        Kind::Refused => Err(Refusal::try_from(number(word)).ok()?),
+        _ => return None,
     };
-    match kind(word) {
-        12 => Some((running, Ok(number(word)))),
-        13 => {
-            let Some(refusal) = Refusal::with_number(number(word)) else {
-                return None;
-            };
-            Some((running, Err(refusal)))
-        }
-        _ => None,
-    }
+    let record = high(word);
+    Some(((record != NO_RECORD).then_some(record), reply))
 }
 
-// The bytes of text that follow a reply: none unless a data word follows.
+// The bytes of text that follow a reply: none unless a data word follows, and then as many as the outcome of a read
+// tells in bits 6 to 0.
 fn following_size(bytes: &[u8], reply: Result<u16, Refusal>) -> usize
     ensures { result ≡ (if starts_data bytes.now then reply_size reply else 0) }
 {
-    if starts_data(bytes) {
-        reply_size(reply)
-    } else {
-        0
+    match reply {
+        Ok(value) if starts_data(bytes) => usize::from(value % 128),
+        _ => 0,
     }
 }
 
-// The first answer of a list of words.
-fn first_answer<'b, 't>(
-    bytes: &'b [u8],
-    text: &'t mut [u8; LONGEST_TEXT],
-) -> Reading<Answer<&'t [u8]>, &'b [u8]>
-    ensures { ReadsAnswer bytes.now (reading_with (answer_with (λ t. t.now)) (λ rest. rest.now) result) }
-{
-    if bytes.is_empty() {
-        return Reading::End;
-    }
-    let Some((word, rest)) = take_word(bytes) else {
-        return Reading::Unlawful;
-    };
-    let Some((running, reply)) = reply_of(word) else {
-        return Reading::Unlawful;
-    };
-    let size = following_size(rest, reply);
-    let Some(after) = read_text(rest, size, text) else {
-        return Reading::Unlawful;
-    };
-    if starts_data(after) {
-        return Reading::Unlawful;
-    }
-    let item = Answer {
-        running,
-        reply,
-        text: front(text, size),
-    };
-    Reading::Found { item, rest: after }
-}
-
-// Takes the first answer off a list of words: the answer and the rest, or that there is none, or that no answer is
-// there. The bytes of a read are put into `text`.
+// Takes the first answer off a list of words: the answer and the rest, or that there are no words. The bytes of a
+// read are put into `text`. Where the words begin with no answer, the refusal is `Unlawful`.
+#[tactic(auto, using(crate::proofs::AnswerWords::one_answer))]
 pub fn read_answer<'b, 't>(
     bytes: &'b [u8],
     text: &'t mut [u8; LONGEST_TEXT],
-) -> Reading<Answer<&'t [u8]>, &'b [u8]>
+) -> Result<Option<(Answer<&'t [u8]>, &'b [u8])>, Refusal>
     ensures reads { ReadsAnswer bytes.now (reading_with (answer_with (λ t. t.now)) (λ rest. rest.now) result) }
     ensures only { OneAnswer }
 {
-    first_answer(bytes, text)
+    if bytes.is_empty() {
+        return Ok(None);
+    }
+    let (word, rest) = take_word(bytes).ok_or(Refusal::Unlawful)?;
+    let (running, reply) = reply_of(word).ok_or(Refusal::Unlawful)?;
+    let size = following_size(rest, reply);
+    let (text, after) = read_text(rest, size, text).ok_or(Refusal::Unlawful)?;
+    if starts_data(after) {
+        return Err(Refusal::Unlawful);
+    }
+    let answer = Answer {
+        running,
+        reply,
+        text,
+    };
+    Ok(Some((answer, after)))
 }
 
 // A reply's word.
 fn word_of(running: Option<u8>, reply: Result<u16, Refusal>) -> u32
     ensures { word_bytes result ≡ reply_word running reply }
 {
-    let running = match running {
-        Some(record) => record,
-        None => 255,
-    };
+    let record = running.unwrap_or(NO_RECORD);
     match reply {
-        Ok(value) => word_with(12, 0, running, value),
-        Err(refusal) => word_with(13, 0, running, refusal.number() as u16),
+        Ok(value) => word_with(Kind::Granted, 0, record, value),
+        Err(refusal) => word_with(Kind::Refused, 0, record, u16::from(u8::from(refusal))),
     }
 }
 
-// Lays the words of an answer over the first bytes if there is room.
-fn try_answer(answer: Answer<&[u8]>, out: &mut [u8]) -> Result<usize, Refusal>
+// Writes the words of an answer to the front of `out` and tells how many bytes they take.
+#[tactic(auto, using(crate::proofs::AnswerWords::one_answer))]
+pub fn write_answer(answer: Answer<&[u8]>, out: &mut [u8]) -> Result<usize, Refusal>
     ensures told { result ≡ told_writing (answer_words (answer_with (λ t. t.now) answer.entry)) out.old }
     ensures leaves { out.new ≡ left_by result (answer_words (answer_with (λ t. t.now) answer.entry)) out.old }
+    ensures back { OneAnswer }
 {
-    let size = 4 + (answer.text.len() + 2) / 3 * 4;
+    let size = 4 + text_size(answer.text.len());
     if out.len() < size {
         return Err(Refusal::NoRoom);
     }
     put_word(out, 0, word_of(answer.running, answer.reply));
     put_text(out, 4, answer.text);
     Ok(size)
-}
-
-// Writes the words of an answer to the front of `out` and tells how many bytes they take.
-pub fn write_answer(answer: Answer<&[u8]>, out: &mut [u8]) -> Result<usize, Refusal>
-    ensures told { result ≡ told_writing (answer_words (answer_with (λ t. t.now) answer.entry)) out.old }
-    ensures leaves { out.new ≡ left_by result (answer_words (answer_with (λ t. t.now) answer.entry)) out.old }
-    ensures back { OneAnswer }
-{
-    try_answer(answer, out)
 }

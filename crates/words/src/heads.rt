@@ -5,21 +5,21 @@ ghost use Rattle.calls.specs.declared.call.Call.{Call as Calls};
 ghost use Rattle.words.specs.Format.{by_id_level, by_id_sub, first_word, length_in, look_sub, transfer_length, transfer_word, word_with};
 ghost use Rattle.words.specs.Heads.{bare, by_id_call, high_of, likely_of, look_call, low_of, middle_of, own_call, sub_of, transfer_call, word_bytes};
 
-use crate::word::{high, kind, low, middle, number, sub_kind, word};
+use crate::kind::Kind;
+use crate::text::text_length;
+use crate::word::{high, kind, low, middle, number, sub_kind, word, word_with};
 use calls::{ByIdCall, Call, LookedAt, Transfer};
 
 // The length of a call's text or read.
 pub(crate) fn length_in(call: Call<usize>) -> usize
     ensures { result ≡ length_in call }
 {
-    let Call::Transfer { unit: _, transfer } = call else {
-        return 0;
-    };
-    match transfer {
-        Transfer::Write { text } => text,
-        Transfer::WriteLine { text } => text,
-        Transfer::Read { length } => length,
-        Transfer::ReadLine => 0,
+    match call {
+        Call::Transfer {
+            transfer: Transfer::Read { length },
+            ..
+        } => length,
+        _ => text_length(call),
     }
 }
 
@@ -27,11 +27,11 @@ fn by_id_word(id: u8, call: ByIdCall) -> u32
     ensures { word_bytes result ≡ first_word (Calls.ById id call) }
 {
     match call {
-        ByIdCall::Kill => word(3, 0, 0, id, 0),
-        ByIdCall::Ready => word(3, 1, 0, id, 0),
-        ByIdCall::Suspend => word(3, 2, 0, id, 0),
-        ByIdCall::SetLevel { level } => word(3, 3, 0, id, level),
-        ByIdCall::Status => word(3, 4, 0, id, 0),
+        ByIdCall::Kill => word(Kind::ById, 0, 0, id, 0),
+        ByIdCall::Ready => word(Kind::ById, 1, 0, id, 0),
+        ByIdCall::Suspend => word(Kind::ById, 2, 0, id, 0),
+        ByIdCall::SetLevel { level } => word(Kind::ById, 3, 0, id, level),
+        ByIdCall::Status => word(Kind::ById, 4, 0, id, 0),
     }
 }
 
@@ -39,9 +39,9 @@ fn look_word(at: LookedAt) -> u32
     ensures { word_bytes result ≡ first_word (Calls.Look at) }
 {
     match at {
-        LookedAt::Message => word(11, 0, 0, 0, 0),
-        LookedAt::Start => word(11, 1, 0, 0, 0),
-        LookedAt::Outcome => word(11, 2, 0, 0, 0),
+        LookedAt::Message => word(Kind::Look, 0, 0, 0, 0),
+        LookedAt::Start => word(Kind::Look, 1, 0, 0, 0),
+        LookedAt::Outcome => word(Kind::Look, 2, 0, 0, 0),
     }
 }
 
@@ -50,20 +50,11 @@ fn transfer_word(unit: u8, transfer: Transfer<usize>) -> u32
     ensures { word_bytes result ≡ transfer_word unit transfer }
 {
     match transfer {
-        Transfer::Write { text } => word(8, 0, unit, 0, text as u8),
-        Transfer::WriteLine { text } => word(8, 1, unit, 0, text as u8),
-        Transfer::Read { length } => word(8, 2, unit, 0, length as u8),
-        Transfer::ReadLine => word(8, 3, unit, 0, 0),
+        Transfer::Write { text } => word(Kind::Transfer, 0, unit, 0, text as u8),
+        Transfer::WriteLine { text } => word(Kind::Transfer, 1, unit, 0, text as u8),
+        Transfer::Read { length } => word(Kind::Transfer, 2, unit, 0, length as u8),
+        Transfer::ReadLine => word(Kind::Transfer, 3, unit, 0, 0),
     }
-}
-
-// A word with a number of 16 bits in bits 15 to 0.
-pub(crate) fn word_with(kind: u8, sub: u8, high: u8, number: u16) -> u32
-    requires { (kind < 16) × (sub < 16) }
-    ensures { word_bytes result ≡ word_with kind sub high number }
-{
-    let [middle, low] = number.to_be_bytes();
-    word(kind, sub, high, middle, low)
 }
 
 // The first word of a call.
@@ -72,27 +63,22 @@ pub(crate) fn first_word(call: Call<usize>) -> u32
     ensures { word_bytes result ≡ first_word call }
 {
     match call {
-        Call::Create {
-            id,
-            level,
-            start: _,
-            message: _,
-        } => word(1, 0, id, level, 0),
-        Call::Kill => word(2, 0, 0, 0, 0),
-        Call::Suspend => word(2, 1, 0, 0, 0),
-        Call::SetLevel { level } => word(2, 2, 0, 0, level),
+        Call::Create { id, level, .. } => word(Kind::Create, 0, id, level, 0),
+        Call::Kill => word(Kind::Own, 0, 0, 0, 0),
+        Call::Suspend => word(Kind::Own, 1, 0, 0, 0),
+        Call::SetLevel { level } => word(Kind::Own, 2, 0, 0, level),
         Call::ById { id, call } => by_id_word(id, call),
         Call::Send {
             cell,
             message,
             stay,
-        } => word_with(5, stay as u8, cell, message),
-        Call::Wait { cell } => word(6, 0, cell, 0, 0),
-        Call::Delay { ticks } => word_with(7, 0, 0, ticks),
+        } => word_with(Kind::Send, u8::from(stay), cell, message),
+        Call::Wait { cell } => word(Kind::Wait, 0, cell, 0, 0),
+        Call::Delay { ticks } => word_with(Kind::Delay, 0, 0, ticks),
         Call::Transfer { unit, transfer } => transfer_word(unit, transfer),
         Call::Look { at } => look_word(at),
-        Call::Tick => word(10, 0, 0, 0, 0),
-        Call::Service { unit } => word(9, 0, unit, 0, 0),
+        Call::Tick => word(Kind::Tick, 0, 0, 0, 0),
+        Call::Service { unit } => word(Kind::Service, 0, unit, 0, 0),
     }
 }
 
@@ -149,47 +135,42 @@ fn transfer_call(word: u32) -> Option<Call<usize>>
 fn look_call(word: u32) -> Option<Call<usize>>
     ensures { result ≡ look_call (sub_of word) }
 {
-    match sub_kind(word) {
-        0 => Some(Call::Look {
-            at: LookedAt::Message,
-        }),
-        1 => Some(Call::Look {
-            at: LookedAt::Start,
-        }),
-        2 => Some(Call::Look {
-            at: LookedAt::Outcome,
-        }),
-        _ => None,
-    }
+    let at = match sub_kind(word) {
+        0 => LookedAt::Message,
+        1 => LookedAt::Start,
+        2 => LookedAt::Outcome,
+        _ => return None,
+    };
+    Some(Call::Look { at })
 }
 
 // The only call whose first word this can be, by its kind and sub-kind.
 fn likely_call(word: u32) -> Option<Call<usize>>
     ensures { result ≡ likely_of word }
 {
-    match kind(word) {
-        1 => Some(Call::Create {
+    match kind(word)? {
+        Kind::Create => Some(Call::Create {
             id: high(word),
             level: middle(word),
             start: 0,
             message: 0,
         }),
-        2 => own_call(word),
-        3 => by_id_call(word),
-        5 => Some(Call::Send {
+        Kind::Own => own_call(word),
+        Kind::ById => by_id_call(word),
+        Kind::Send => Some(Call::Send {
             cell: high(word),
             message: number(word),
             stay: sub_kind(word) == 1,
         }),
-        6 => Some(Call::Wait { cell: high(word) }),
-        7 => Some(Call::Delay {
+        Kind::Wait => Some(Call::Wait { cell: high(word) }),
+        Kind::Delay => Some(Call::Delay {
             ticks: number(word),
         }),
-        8 => transfer_call(word),
-        9 => Some(Call::Service { unit: high(word) }),
-        10 => Some(Call::Tick),
-        11 => look_call(word),
-        _ => None,
+        Kind::Transfer => transfer_call(word),
+        Kind::Service => Some(Call::Service { unit: high(word) }),
+        Kind::Tick => Some(Call::Tick),
+        Kind::Look => look_call(word),
+        Kind::Data | Kind::Granted | Kind::Refused => None,
     }
 }
 
@@ -197,12 +178,6 @@ fn likely_call(word: u32) -> Option<Call<usize>>
 pub(crate) fn call_of(word: u32) -> Option<Call<usize>>
     ensures { MatchOption result ((c : Calls ℕ) → first_word c ≢ word_bytes word) (λ c. (first_word c ≡ word_bytes word) × (length_in c ≤ 255) × (c ≡ bare c)) }
 {
-    let Some(call) = likely_call(word) else {
-        return None;
-    };
-    if first_word(call) == word {
-        Some(call)
-    } else {
-        None
-    }
+    let call = likely_call(word)?;
+    (first_word(call) == word).then_some(call)
 }

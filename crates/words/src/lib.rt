@@ -3,9 +3,9 @@
 
 mod answer;
 mod heads;
+mod kind;
 mod parts;
 mod read;
-mod reading;
 mod text;
 mod word;
 mod write;
@@ -13,6 +13,5 @@ mod write;
 pub use answer::{read_answer, write_answer};
 pub use parts::Answer;
 pub use read::read_call;
-pub use reading::Reading;
 pub use text::LONGEST_TEXT;
 pub use write::write_call;

@@ -3,7 +3,7 @@
 use calls::Refusal;
 
 // `T` is how the bytes of a read are held: a slice in code, a list in the definitions.
-#[derive(Clone, Copy)]
+#[derive(Clone, Copy, PartialEq, Eq, Debug)]
 pub struct Answer<T> {
     // The running record after the call.
     pub running: Option<u8>,

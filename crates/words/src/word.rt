@@ -1,8 +1,11 @@
 // One word: 32 bits, stored as four bytes, the highest first. Bits 31 to 28 are its kind, 27 to 24 its sub-kind.
 
 ghost use Rattle.std.specs.Prelude.{◌≡◌, ℕ, ◌+◌, ◌-◌, ◌*◌, ◌/◌, ◌%◌, ◌<◌, ◌≤◌, ◌++◌, length, MatchOption};
-ghost use Rattle.words.specs.Format.{word};
+ghost use Rattle.words.specs.Format.{word, word_with};
 ghost use Rattle.words.specs.Heads.{high_of, kind_of, low_of, middle_of, sub_of, word_bytes};
+ghost use Rattle.words.specs.Kinds.{kind_number};
+
+use crate::kind::Kind;
 
 // The first word and the rest.
 pub(crate) fn take_word(bytes: &[u8]) -> Option<(u32, &[u8])>
@@ -15,17 +18,42 @@ pub(crate) fn take_word(bytes: &[u8]) -> Option<(u32, &[u8])>
 }
 
 // The word that has these parts.
-pub(crate) fn word(kind: u8, sub: u8, high: u8, middle: u8, low: u8) -> u32
-    requires { (kind < 16) × (sub < 16) }
-    ensures { word_bytes result ≡ word kind sub high middle low }
+pub(crate) fn word(kind: Kind, sub: u8, high: u8, middle: u8, low: u8) -> u32
+    requires { sub < 16 }
+    ensures { word_bytes result ≡ word (kind_number kind) sub high middle low }
 {
-    u32::from_be_bytes([kind * 16 + sub, high, middle, low])
+    u32::from_be_bytes([u8::from(kind) * 16 + sub, high, middle, low])
 }
 
-pub(crate) fn kind(word: u32) -> u8
+// The word that has a number of 16 bits in bits 15 to 0.
+pub(crate) fn word_with(kind: Kind, sub: u8, high: u8, number: u16) -> u32
+    requires { sub < 16 }
+    ensures { word_bytes result ≡ word_with (kind_number kind) sub high number }
+{
+    let [middle, low] = number.to_be_bytes();
+    word(kind, sub, high, middle, low)
+}
+
+// The kind of a word, if it has one.
+pub(crate) fn kind(word: u32) -> Option<Kind>
     ensures { result ≡ kind_of word }
 {
-    (word >> 28) as u8
+    Some(match word >> 28 {
+        0 => Kind::Data,
+        1 => Kind::Create,
+        2 => Kind::Own,
+        3 => Kind::ById,
+        5 => Kind::Send,
+        6 => Kind::Wait,
+        7 => Kind::Delay,
+        8 => Kind::Transfer,
+        9 => Kind::Service,
+        10 => Kind::Tick,
+        11 => Kind::Look,
+        12 => Kind::Granted,
+        13 => Kind::Refused,
+        _ => return None,
+    })
 }
 
 pub(crate) fn sub_kind(word: u32) -> u8

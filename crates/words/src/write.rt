@@ -1,16 +1,17 @@
 // Writing a call: its first word, and the data words that go on with it.
 
-ghost use Rattle.std.specs.Prelude.{◌≡◌, ℕ, ◌+◌, ◌<◌, ◌≤◌, length};
+ghost use Rattle.std.specs.Prelude.{◌≡◌, ℕ, ◌+◌, ◌*◌, ◌/◌, ◌^◌, ◌<◌, ◌≤◌, length};
 ghost use Rattle.calls.specs.Calls.{call_with};
 ghost use Rattle.words.specs.Format.{call_words, data_words, length_in, text_words};
 ghost use Rattle.words.specs.Heads.{word_bytes};
 ghost use Rattle.words.specs.Reading.{OneCall, Writable};
 ghost use Rattle.words.specs.Writing.{laid, left_by, told_call, words_size};
 
-use crate::heads::{first_word, length_in, word_with};
-use crate::text::LONGEST_TEXT;
-use crate::word::word;
-use calls::{Call, Refusal, Transfer};
+use crate::heads::{first_word, length_in};
+use crate::kind::Kind;
+use crate::text::{LONGEST_TEXT, text_length};
+use crate::word::{word, word_with};
+use calls::{Call, Refusal};
 
 // Lays a word over the bytes at a place.
 pub(crate) fn put_word(out: &mut [u8], at: usize, word: u32)
@@ -28,13 +29,13 @@ pub(crate) fn put_text(out: &mut [u8], at: usize, text: &[u8])
     let mut at = at;
     let mut rest = text;
     while let [a, b, c, more @ ..] = rest {
-        put_word(out, at, word(0, 0, *a, *b, *c));
+        put_word(out, at, word(Kind::Data, 0, *a, *b, *c));
         at += 4;
         rest = more;
     }
     match rest {
-        [a, b] => put_word(out, at, word(0, 0, *a, *b, 0)),
-        [a] => put_word(out, at, word(0, 0, *a, 0, 0)),
+        [a, b] => put_word(out, at, word(Kind::Data, 0, *a, *b, 0)),
+        [a] => put_word(out, at, word(Kind::Data, 0, *a, 0, 0)),
         _ => {}
     }
 }
@@ -43,39 +44,25 @@ pub(crate) fn put_text(out: &mut [u8], at: usize, text: &[u8])
 fn head(call: Call<&[u8]>) -> Call<usize>
     ensures { result ≡ call_with length (call_with (λ t. t.now) call.entry) }
 {
-    let Call::Transfer { unit, transfer } = call else {
-        return call.with_text(0);
-    };
-    let transfer = match transfer {
-        Transfer::Write { text } => Transfer::Write { text: text.len() },
-        Transfer::WriteLine { text } => Transfer::WriteLine { text: text.len() },
-        Transfer::Read { length } => Transfer::Read { length },
-        Transfer::ReadLine => Transfer::ReadLine,
-    };
-    Call::Transfer { unit, transfer }
+    call.map_text(|text| text.len())
+}
+
+// How many bytes the words of a text take.
+pub(crate) fn text_size(length: usize) -> usize
+    requires { length < 2 ^ 63 }
+    ensures { result ≡ (length + 2) / 3 * 4 }
+{
+    length.div_ceil(3) * 4
 }
 
 // How many bytes the words of a call take.
 fn size(call: Call<usize>) -> usize
-    requires { length_in call ≤ 255 }
+    requires { length_in call ≤ LONGEST_TEXT }
     ensures { result ≡ words_size call }
 {
     match call {
-        Call::Create {
-            id: _,
-            level: _,
-            start: _,
-            message: _,
-        } => 12,
-        Call::Transfer {
-            unit: _,
-            transfer: Transfer::Write { text },
-        } => 4 + (text + 2) / 3 * 4,
-        Call::Transfer {
-            unit: _,
-            transfer: Transfer::WriteLine { text },
-        } => 4 + (text + 2) / 3 * 4,
-        _ => 4,
+        Call::Create { .. } => 12,
+        _ => 4 + text_size(text_length(call)),
     }
 }
 
@@ -84,25 +71,11 @@ fn put_data(out: &mut [u8], call: Call<&[u8]>)
     requires { 4 + length (data_words (call_with (λ t. t.now) call)) ≤ length out.old }
     ensures { out.new ≡ laid 4 (data_words (call_with (λ t. t.now) call.entry)) out.old }
 {
-    match call {
-        Call::Create {
-            id: _,
-            level: _,
-            start,
-            message,
-        } => {
-            put_word(out, 4, word_with(0, 0, 0, start));
-            put_word(out, 8, word_with(0, 0, 0, message));
-        }
-        Call::Transfer {
-            unit: _,
-            transfer: Transfer::Write { text },
-        } => put_text(out, 4, text),
-        Call::Transfer {
-            unit: _,
-            transfer: Transfer::WriteLine { text },
-        } => put_text(out, 4, text),
-        _ => {}
+    if let Call::Create { start, message, .. } = call {
+        put_word(out, 4, word_with(Kind::Data, 0, 0, start));
+        put_word(out, 8, word_with(Kind::Data, 0, 0, message));
+    } else if let Some(text) = call.text() {
+        put_text(out, 4, text);
     }
 }
 
@@ -116,10 +89,12 @@ fn put_call(out: &mut [u8], call: Call<&[u8]>)
     put_data(out, call);
 }
 
-// Lays the words of a call over the first bytes if they can be written and there is room.
-fn try_call(call: Call<&[u8]>, out: &mut [u8]) -> Result<usize, Refusal>
+// Writes the words of a call to the front of `out` and tells how many bytes they take.
+#[tactic(auto, using(crate::proofs::CallWords::one_call))]
+pub fn write_call(call: Call<&[u8]>, out: &mut [u8]) -> Result<usize, Refusal>
     ensures told { result ≡ told_call (call_with (λ t. t.now) call.entry) out.old }
     ensures leaves { out.new ≡ left_by result (call_words (call_with (λ t. t.now) call.entry)) out.old }
+    ensures back { OneCall }
 {
     let head = head(call);
     if length_in(head) > LONGEST_TEXT {
@@ -131,13 +106,4 @@ fn try_call(call: Call<&[u8]>, out: &mut [u8]) -> Result<usize, Refusal>
     }
     put_call(out, call);
     Ok(size)
-}
-
-// Writes the words of a call to the front of `out` and tells how many bytes they take.
-pub fn write_call(call: Call<&[u8]>, out: &mut [u8]) -> Result<usize, Refusal>
-    ensures told { result ≡ told_call (call_with (λ t. t.now) call.entry) out.old }
-    ensures leaves { out.new ≡ left_by result (call_words (call_with (λ t. t.now) call.entry)) out.old }
-    ensures back { OneCall }
-{
-    try_call(call, out)
 }

@@ -2,4 +2,4 @@ use Rattle.std.proofs.Common.{length}
 use Rattle.listing.proofs.list.Given as goal
 
 abbrev pub decreases-loop-after : goal.decreases-loop-after
-decreases-loop-after l = length l.rest
+decreases-loop-after g l = length l.rest
