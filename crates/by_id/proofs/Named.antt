@@ -1,5 +1,5 @@
 -- Calls by id, by the task that is found: the caller itself, or another.
-use Rattle.std.proofs.Common.{◌≡◌, ℕ, Bool, true, false, cond, eqb, ◌≢◌, Some, Option, sym, refl, ap, ◌∙◌, eq-eqb, ne_eqb, eqb-true}
+use Rattle.std.proofs.Common.{◌≡◌, ℕ, Bool, true, false, cond, eqb, ◌≢◌, List, Some, Option, Result, sym, refl, ap, ◌∙◌, eq-eqb, ne_eqb, eqb-true}
 use Rattle.calls.specs.declared.call.ByIdCall.{ByIdCall}
 use Rattle.calls.specs.declared.call.ByIdCall.TheVariants.{Kill, Suspend, SetLevel, Status}
 use Rattle.calls.specs.declared.call.Call.TheVariants as call
@@ -7,7 +7,17 @@ use Rattle.rules.specs.State.{State}
 use Rattle.rules.specs.Tables.{lookup}
 use Rattle.rules.specs.Acts.{tell}
 use Rattle.rules.specs.Records.{by_id, killing, levelling, on_caller, on_other, status_of, suspending}
-use Rattle.rules.specs.Rules.{apply, by_caller}
+use Rattle.rules.specs.Rules.{Step, apply, by_caller}
+use Rattle.rules.specs.Acts.{Done}
+use Rattle.calls.specs.declared.refusal.Refusal.{Refusal}
+use Rattle.unit.specs.Medium.{Medium}
+use Rattle.tables.specs.Promises.{Does}
+use Rattle.tables.specs.View.{state}
+use Rattle.tables.specs.declared.Tables.{Tables}
+
+-- a step that is another step, by the rules
+pub same_step : {x y : Step} {before after : Tables} {r : Result ℕ Refusal} → ((us : List Medium) → apply x (state us before) ≡ apply y (state us before)) → Does y before after r → Does x before after r
+same_step e h = record { state = λ us. h.state us ∙ ap (λ (d : Done). d.state) (sym (e us)); answer = λ us. h.answer us ∙ ap (λ (d : Done). d.answer) (sym (e us)); room = h.room }
 
 module _ (s : State) (t k id : ℕ) (runs : Some t ≡ s.table.running) (finds : Some k ≡ lookup id s.table) where
   by-found : (c : ByIdCall) → apply (call.ById id c) s ≡ cond (eqb k t) (on_caller t c s) (on_other k c s)

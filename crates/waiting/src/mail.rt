@@ -5,7 +5,6 @@ ghost use Rattle.cells.specs.View as post;
 ghost use Rattle.chain.specs.Lists.{first};
 ghost use Rattle.tables.specs.Spread.{Spread};
 ghost use Rattle.tables.specs.Promises.{Does};
-ghost use Rattle.tables.specs.View.{Stands};
 ghost use Rattle.rules.specs.Mail.{empty_cell, leave_first, tasks_at};
 ghost use Rattle.rules.specs.Records.{waiters};
 ghost use Rattle.rules.specs.Tables.{hand_all, release_all, turn};
@@ -58,12 +57,9 @@ fn release_sender(tasks: &mut Tasks, cells: &mut Cells, cell: u8)
 // The running task sends a message to a cell. Receivers that wait there get it; otherwise the cell takes it, and a
 // caller who stays waits until it is taken.
 pub fn send(tables: &mut Tables, cell: u8, message: u16, stay: bool) -> Result<u16, Refusal>
-    requires { Stands tables.old }
     ensures { Does (Send cell message stay) tables.old tables.new result }
 {
-    let Some(caller) = tables.tasks.running() else {
-        return Err(Refusal::NoTask);
-    };
+    let caller = tables.caller()?;
     if tables.cells.word(cell) != 0 {
         return Err(Refusal::CellFull);
     }
@@ -87,12 +83,9 @@ pub fn send(tables: &mut Tables, cell: u8, message: u16, stay: bool) -> Result<u
 
 // The running task takes a cell's message, and a sender who stayed goes on; or it waits for one.
 pub fn wait(tables: &mut Tables, cell: u8) -> Result<u16, Refusal>
-    requires { Stands tables.old }
     ensures { Does (Wait cell) tables.old tables.new result }
 {
-    let Some(caller) = tables.tasks.running() else {
-        return Err(Refusal::NoTask);
-    };
+    let caller = tables.caller()?;
     let message = tables.cells.word(cell);
     if message == 0 {
         tables.cells.join(caller, cell);
