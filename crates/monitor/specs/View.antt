@@ -3,7 +3,7 @@ use Rattle.std.specs.Prelude.{List, [], ◌∷◌}
 use Rattle.unit.specs.Medium.{Medium}
 use Rattle.unit.specs.declared.Unit.{Ghosts}
 use Rattle.rules.specs.State.{State}
-use Rattle.kernel.specs.View as kernel
+use Rattle.tables.specs.View as tables
 use Rattle.monitor.specs.declared.Monitor.{Monitor}
 use Rattle.monitor.specs.declared.Units.{Units}
 
@@ -13,4 +13,4 @@ media a b c d u = a.medium u.unit_0 ∷ b.medium u.unit_1 ∷ c.medium u.unit_2 
 
 -- the state, with its units
 abbrev pub state : {A B C D : Type 0} → Ghosts A → Ghosts B → Ghosts C → Ghosts D → Monitor A B C D → State
-state a b c d m = kernel.state (media a b c d m.units) m.kernel
+state a b c d m = tables.state (media a b c d m.units) m.tables

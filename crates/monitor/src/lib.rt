@@ -1,4 +1,4 @@
-// The task monitor: a kernel over four units of any kind. What it means is a state of the rules; every call promises the
+// The task monitor: the tables, and four units of any kind. What it means is a state of the rules; every call promises the
 // state and the answer that the rules give, and the laws over whole runs stand on the call that takes any step.
 #![tactic(auto)]
 
@@ -12,8 +12,8 @@ mod waits;
 
 use calls::Refusal;
 use generation::Sealed;
-use kernel::Kernel;
-pub use kernel::Place;
+pub use tables::Place;
+use tables::Tables;
 
 // The four units of a cabinet, by their numbers.
 #[derive(Drop)]
@@ -27,7 +27,7 @@ pub struct Units<A, B, C, D> {
 // A monitor. Of each there is: every record is at exactly one place, marks are as they may be, and chains are sorted.
 #[derive(Drop)]
 pub struct Monitor<A, B, C, D> {
-    kernel: Kernel,
+    tables: Tables,
     units: Units<A, B, C, D>,
 }
 

@@ -2,5 +2,6 @@
 pub mod Parts
 pub mod View
 pub mod Caller
+pub mod Places
 pub mod Spread
 pub mod Promises

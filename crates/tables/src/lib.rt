@@ -5,10 +5,13 @@
 ghost use Rattle.tables.specs.Parts.{StandsOf};
 
 mod caller;
+mod place;
+mod reads;
 mod start;
 
 use cells::Cells;
 use clock::ClockWaits;
+pub use place::Place;
 use queues::Queues;
 use tasks::Tasks;
 

@@ -1,4 +1,4 @@
--- The kernel tells it, whatever the units are.
+-- The tables tell it, whatever the units are.
 use Rattle.std.proofs.Common.{[]}
 use Rattle.monitor.proofs.Monitor.running.Goals as goal
 
