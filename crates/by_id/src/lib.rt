@@ -57,11 +57,9 @@ pub fn ready_id(tables: &mut Tables, id: u8) -> Result<u16, Refusal>
     let Some(task) = tables.tasks.find(id) else {
         return Err(Refusal::NoSuchId);
     };
-    if task == caller {
-        tables.tasks.turn();
-        return Ok(0);
+    if task != caller {
+        tables.tasks.ready_other(task);
     }
-    tables.tasks.ready_other(task);
     tables.tasks.turn();
     Ok(0)
 }

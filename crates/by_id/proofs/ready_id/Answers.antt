@@ -12,6 +12,3 @@ ready_other-requires c = (found c.args.id c.in-Some.task (table c.args.tables.no
 
 pub invariant_of-tables : goal.invariant_of-tables
 invariant_of-tables c = record { stands = kept c.args.tables.now (ById c.args.id by.Ready) tt (search rules) (refl, refl, refl) }
-
-pub invariant_of-tables-2 : goal.invariant_of-tables-2
-invariant_of-tables-2 c = record { stands = kept c.args.tables.now (ById c.args.id by.Ready) tt (search rules) (refl, refl, refl) }
