@@ -38,7 +38,7 @@ one_more {start = start} {s' = s'} {others = others} {told' = told'} {r = r} cal
     })
 
 -- the run from a start, with the laws of it and of each front of it
-pub performed : (start s last : State) (steps : List Step) (told : List (Result ℕ Refusal)) → Started start → s ≡ start → last ≡ after s steps → told ≡ answers s steps → All Lawful steps → Performed start steps last told
-performed start s last steps told h is e a ok =
-    let e' : last ≡ after start steps = e ∙ ap (λ (z : State). after z steps) is in
-    record { state = e'; answers = a ∙ ap (λ (z : State). answers z steps) is; laws = laws_play start [] steps start last ok e' h (All-nil Lawful) refl }
+pub performed : {start s last : State} {steps : List Step} {told : List (Result ℕ Refusal)} → Started start → s ≡ start → last ≡ after s steps → told ≡ answers s steps → All Lawful steps → Performed start steps last told
+performed {start = start} {last = last} {steps = steps} h is e a ok =
+    let e' : last ≡ after start steps = rw (← is) e in
+    record { state = e'; answers = rw (← is) a; laws = laws_play start [] steps start last ok e' h (All-nil Lawful) refl }

@@ -1,7 +1,7 @@
 // The start of a monitor, and its end.
 
 ghost use Rattle.generation.specs.Answers.{sealed_rate, sealed_tasks, ticks};
-ghost use Rattle.monitor.specs.View.{media, state};
+ghost use Rattle.monitor.specs.View.{media};
 ghost use Rattle.rules.specs.State.{begin};
 ghost use Rattle.std.specs.Prelude.{◌≡◌, MatchResult};
 
@@ -19,7 +19,7 @@ impl<A: Unit, B: Unit, C: Unit, D: Unit> Monitor<A, B, C, D> {
         sealed: Sealed,
         units: Units<A, B, C, D>,
     ) -> Result<Monitor<A, B, C, D>, NotStarted<A, B, C, D>>
-        ensures { MatchResult result (λ m. state A.Unit B.Unit C.Unit D.Unit m ≡ begin (sealed_tasks sealed) (ticks (sealed_rate sealed)) (media A.Unit B.Unit C.Unit D.Unit units)) (λ e. (e.sealed ≡ sealed) × (e.units ≡ units)) }
+        ensures { MatchResult result (λ m. m ≡ begin (sealed_tasks sealed) (ticks (sealed_rate sealed)) (media A.Unit B.Unit C.Unit D.Unit units)) (λ e. (e.sealed ≡ sealed) × (e.units ≡ units)) }
     {
         let Ok(tables) = Tables::of(heap, sealed.tasks() as usize, sealed.rate().ticks()) else {
             return Err(NotStarted { sealed, units });
@@ -29,7 +29,7 @@ impl<A: Unit, B: Unit, C: Unit, D: Unit> Monitor<A, B, C, D> {
 
     // Ends the monitor and hands back its units, with all that they have taken and given.
     pub fn into_units(self) -> Units<A, B, C, D>
-        ensures { media A.Unit B.Unit C.Unit D.Unit result ≡ (state A.Unit B.Unit C.Unit D.Unit self).units }
+        ensures { media A.Unit B.Unit C.Unit D.Unit result ≡ self.units }
     {
         self.units
     }

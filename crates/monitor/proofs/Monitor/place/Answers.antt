@@ -4,4 +4,4 @@ use Rattle.tables.proofs.Stands.{one_place}
 use Rattle.monitor.proofs.Monitor.place.Goals as goal
 
 pub returns : goal.returns
-returns g c = record { told = c.place.ensures []; once = one_place c.args.self.now.tables }
+returns g c = rw (← c.self.view_is) (record { told = c.place.ensures []; once = one_place c.self.inside.tables })
