@@ -11,9 +11,6 @@ use queues::UnitNumber;
 use transfers::serve;
 use unit::Unit;
 
-// A read has no text.
-const NONE: &[u8] = &[];
-
 impl<A: Unit, B: Unit, C: Unit, D: Unit> Monitor<A, B, C, D> {
     // Asks a unit for a transfer, and waits for its end.
     pub fn transfer(&mut self, unit: u8, transfer: Transfer<&[u8]>) -> Result<u16, Refusal>
@@ -40,16 +37,14 @@ impl<A: Unit, B: Unit, C: Unit, D: Unit> Monitor<A, B, C, D> {
     pub fn read(&mut self, unit: u8, length: usize) -> Result<u16, Refusal>
         ensures { Made (Asks unit (Read length)) self.old self.new result }
     {
-        let asked = Transfer::<()>::Read { length };
-        self.transfer(unit, asked.with_text(NONE))
+        self.transfer(unit, Transfer::Read { length })
     }
 
     // Reads up to a line end, included, or 80 bytes.
     pub fn read_line(&mut self, unit: u8) -> Result<u16, Refusal>
         ensures { Made (Asks unit ReadLine) self.old self.new result }
     {
-        let asked = Transfer::<()>::ReadLine;
-        self.transfer(unit, asked.with_text(NONE))
+        self.transfer(unit, Transfer::ReadLine)
     }
 
     // Lets a unit move one byte of its first request. The answer is 1 if the request has ended.
