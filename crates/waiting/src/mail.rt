@@ -71,17 +71,16 @@ pub fn send(tables: &mut Tables, cell: u8, message: u16, stay: bool) -> Result<u
         return Ok(0);
     }
     tables.cells.put_word(cell, message);
-    if !stay {
-        tables.tasks.turn();
-        return Ok(0);
+    if stay {
+        tables.cells.join(caller, cell);
+        tables.tasks.stop();
     }
-    tables.cells.join(caller, cell);
-    tables.tasks.stop();
     tables.tasks.turn();
     Ok(0)
 }
 
-// The running task takes a cell's message, and a sender who stayed goes on; or it waits for one.
+// The running task takes a cell's message, and a sender who stayed goes on; or it waits for one. The answer is the message, or
+// 0 where there is none yet.
 pub fn wait(tables: &mut Tables, cell: u8) -> Result<u16, Refusal>
     ensures { Does (Wait cell) tables.old tables.new result }
 {
@@ -90,12 +89,11 @@ pub fn wait(tables: &mut Tables, cell: u8) -> Result<u16, Refusal>
     if message == 0 {
         tables.cells.join(caller, cell);
         tables.tasks.stop();
-        tables.tasks.turn();
-        return Ok(0);
+    } else {
+        tables.cells.put_word(cell, 0);
+        tables.tasks.give_word(caller, message);
+        release_sender(&mut tables.tasks, &mut tables.cells, cell);
     }
-    tables.cells.put_word(cell, 0);
-    tables.tasks.give_word(caller, message);
-    release_sender(&mut tables.tasks, &mut tables.cells, cell);
     tables.tasks.turn();
     Ok(message)
 }

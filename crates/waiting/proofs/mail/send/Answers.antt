@@ -25,8 +25,5 @@ join-requires c =
 pub invariant_of-tables : goal.invariant_of-tables
 invariant_of-tables c = record { stands = kept c.args.tables.now (Send c.args.cell c.args.message c.args.stay) c.ranges.cell.fits (search rules) (refl, c.deliver.ensures.room, refl) }
 
-pub invariant_of-tables-then-not-stay : goal.invariant_of-tables-then-not-stay
-invariant_of-tables-then-not-stay c = record { stands = kept c.args.tables.now (Send c.args.cell c.args.message c.args.stay) c.ranges.cell.fits (search rules) (refl, c.put_word.ensures.room, refl) }
-
 pub invariant_of-tables-2 : goal.invariant_of-tables-2
-invariant_of-tables-2 c = record { stands = kept c.args.tables.now (Send c.args.cell c.args.message c.args.stay) c.ranges.cell.fits (search rules) (refl, c.join.ensures.room ∙ c.put_word.ensures.room, refl) }
+invariant_of-tables-2 c = record { stands = kept c.args.tables.now (Send c.args.cell c.args.message c.args.stay) c.ranges.cell.fits (search rules) (search rules) }

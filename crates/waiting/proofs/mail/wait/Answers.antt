@@ -1,5 +1,5 @@
 -- The caller, which runs, is one of the records and waits nowhere; a sender that stayed is not in the table.
-use Rattle.std.proofs.Common.{refl, ◌∙◌, arith, rules}
+use Rattle.std.proofs.Common.{arith, rules}
 use Rattle.calls.specs.declared.call.Call.TheVariants.{Wait}
 use Rattle.cells.specs.View.{cells}
 use Rattle.rules.specs.State.{with_word}
@@ -23,7 +23,4 @@ release_sender-requires c =
     c.give_word.ensures c.put_word.ensures.cells (spread-cells k)
 
 pub invariant_of-tables : goal.invariant_of-tables
-invariant_of-tables c = record { stands = kept c.args.tables.now (Wait c.args.cell) c.ranges.cell.fits (search rules) (refl, c.join.ensures.room, refl) }
-
-pub invariant_of-tables-2 : goal.invariant_of-tables-2
-invariant_of-tables-2 c = record { stands = kept c.args.tables.now (Wait c.args.cell) c.ranges.cell.fits (search rules) (refl, c.release_sender.ensures.room ∙ c.put_word.ensures.room, refl) }
+invariant_of-tables c = record { stands = kept c.args.tables.now (Wait c.args.cell) c.ranges.cell.fits (search rules) (search rules) }
