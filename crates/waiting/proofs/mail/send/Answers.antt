@@ -1,5 +1,5 @@
 -- Those that wait at the cell are not in the table, and the caller, which runs, waits nowhere.
-use Rattle.std.proofs.Common.{refl, ap, ◌∙◌, arith, rules}
+use Rattle.std.proofs.Common.{ap, ◌∙◌, arith, rules}
 use Rattle.calls.specs.declared.call.Call.TheVariants.{Send}
 use Rattle.rules.specs.State as rules
 use Rattle.rules.specs.Records.{waiters}
@@ -7,8 +7,8 @@ use Rattle.chain.specs.Lists.{has}
 use Rattle.tables.proofs.Stands.{kept, spread-cells}
 use Rattle.waiting.proofs.mail.send.Goals as goal
 
-pub deliver-requires : goal.deliver-requires
-deliver-requires c = spread-cells c.args.tables.now
+pub hand_all-requires : goal.hand_all-requires
+hand_all-requires c = spread-cells c.args.tables.now
 
 pub join-requires : goal.join-requires
 join-requires c =
@@ -23,7 +23,4 @@ join-requires c =
     }
 
 pub invariant_of-tables : goal.invariant_of-tables
-invariant_of-tables c = record { stands = kept c.args.tables.now (Send c.args.cell c.args.message c.args.stay) c.ranges.cell.fits (search rules) (refl, c.deliver.ensures.room, refl) }
-
-pub invariant_of-tables-2 : goal.invariant_of-tables-2
-invariant_of-tables-2 c = record { stands = kept c.args.tables.now (Send c.args.cell c.args.message c.args.stay) c.ranges.cell.fits (search rules) (search rules) }
+invariant_of-tables c = record { stands = kept c.args.tables.now (Send c.args.cell c.args.message c.args.stay) c.ranges.cell.fits (search rules) (search rules) }
