@@ -1,5 +1,6 @@
 -- Calls by id, by the task that is found: the caller itself, or another.
-use Rattle.std.proofs.Common.{◌≡◌, ℕ, Bool, true, false, cond, eqb, ◌≢◌, Some, Option, sym, refl, ap, ◌∙◌, eq-eqb, ne_eqb, eqb-true}
+use Rattle.std.proofs.Common.{◌≡◌, ℕ, Bool, true, false, cond, List, Some, Option, Result, sym, refl, ap, ◌∙◌, eq-eqb, eqb-true}
+use Rattle.std.specs.Prelude.{◌==◌}
 use Rattle.calls.specs.declared.call.ByIdCall.{ByIdCall}
 use Rattle.calls.specs.declared.call.ByIdCall.TheVariants.{Kill, Suspend, SetLevel, Status}
 use Rattle.calls.specs.declared.call.Call.TheVariants as call
@@ -7,15 +8,21 @@ use Rattle.rules.specs.State.{State}
 use Rattle.rules.specs.Tables.{lookup}
 use Rattle.rules.specs.Acts.{tell}
 use Rattle.rules.specs.Records.{by_id, killing, levelling, on_caller, on_other, status_of, suspending}
-use Rattle.rules.specs.Rules.{apply, by_caller}
+use Rattle.rules.specs.Rules.{Step, apply, by_caller}
+use Rattle.rules.specs.Acts.{Done}
+use Rattle.calls.specs.declared.refusal.Refusal.{Refusal}
+use Rattle.unit.specs.Medium.{Medium}
+use Rattle.tables.specs.Promises.{Does}
+use Rattle.tables.specs.View.{state}
+use Rattle.tables.specs.declared.Tables.{Tables}
+
+-- a step that is another step, by the rules
+pub same_step : {x y : Step} {before after : Tables} {r : Result ℕ Refusal} → ((us : List Medium) → apply x (state us before) ≡ apply y (state us before)) → Does y before after r → Does x before after r
+same_step e h = record { state = λ us. h.state us ∙ ap (λ (d : Done). d.state) (sym (e us)); answer = λ us. h.answer us ∙ ap (λ (d : Done). d.answer) (sym (e us)); room = h.room }
 
 module _ (s : State) (t k id : ℕ) (runs : Some t ≡ s.table.running) (finds : Some k ≡ lookup id s.table) where
-  by-found : (c : ByIdCall) → apply (call.ById id c) s ≡ cond (eqb k t) (on_caller t c s) (on_other k c s)
+  by-found : (c : ByIdCall) → apply (call.ById id c) s ≡ cond (k == t) (on_caller t c s) (on_other k c s)
   by-found c = ap (λ (o : Option ℕ). by_caller o (λ t. by_id t c (lookup id s.table) s) s) (sym runs) ∙ ap (λ (o : Option ℕ). by_id t c o s) (sym finds)
-
-  -- another task
-  pub on-other : (c : ByIdCall) → k ≢ t → apply (call.ById id c) s ≡ on_other k c s
-  on-other c n = by-found c ∙ ap (λ (b : Bool). cond b (on_caller t c s) (on_other k c s)) (ne_eqb k t n)
 
   -- the caller
   pub on-caller : (c : ByIdCall) → k ≡ t → apply (call.ById id c) s ≡ on_caller t c s
@@ -33,8 +40,8 @@ module _ (s : State) (t k id : ℕ) (runs : Some t ≡ s.table.running) (finds :
 
   -- the status of either is told the same way
   pub status_told : apply (call.ById id Status) s ≡ tell (status_of s k) s
-  status_told = by-found Status ∙ same (eqb k t) refl
+  status_told = by-found Status ∙ same (k == t) refl
     where
-      same : (b : Bool) → eqb k t ≡ b → cond b (on_caller t Status s) (on_other k Status s) ≡ tell (status_of s k) s
+      same : (b : Bool) → k == t ≡ b → cond b (on_caller t Status s) (on_other k Status s) ≡ tell (status_of s k) s
       same true e = ap (λ (j : ℕ). tell (status_of s j) s) (sym (eqb-true k t e))
       same false e = refl

@@ -1,11 +1,11 @@
-// Calls on the task that has an id: the live one with it, which may be the caller ittables.
+// Calls on the task that has an id: the live one with it, which may be the caller itself.
 #![tactic(auto)]
 
 ghost use Rattle.std.specs.Prelude.{◌≡◌, ◌<◌, List, length};
 ghost use Rattle.calls.specs.declared.call.ByIdCall.TheVariants as by;
 ghost use Rattle.calls.specs.declared.call.Call.TheVariants.{ById};
 ghost use Rattle.tables.specs.Promises.{Does};
-ghost use Rattle.tables.specs.View.{Stands, state};
+ghost use Rattle.tables.specs.View.{state};
 ghost use Rattle.rules.specs.Records.{bit as bit_of, status_of};
 ghost use Rattle.tasks.specs.View.{table};
 ghost use Rattle.unit.specs.Medium.{Medium};
@@ -16,7 +16,6 @@ use tables::Tables;
 
 // A call on the task with the id.
 pub fn by_id(tables: &mut Tables, id: u8, call: ByIdCall) -> Result<u16, Refusal>
-    requires { Stands tables.old }
     ensures { Does (ById id call) tables.old tables.new result }
 {
     match call {
@@ -31,12 +30,9 @@ pub fn by_id(tables: &mut Tables, id: u8, call: ByIdCall) -> Result<u16, Refusal
 // The task with the id is killed, unless it waits at a unit: it leaves its chain or its wait, and its record is cleared and
 // freed. A message that it sent stays in its cell.
 pub fn kill_id(tables: &mut Tables, id: u8) -> Result<u16, Refusal>
-    requires { Stands tables.old }
     ensures { Does (ById id by.Kill) tables.old tables.new result }
 {
-    let Some(caller) = tables.tasks.running() else {
-        return Err(Refusal::NoTask);
-    };
+    let caller = tables.caller()?;
     let Some(task) = tables.tasks.find(id) else {
         return Err(Refusal::NoSuchId);
     };
@@ -55,32 +51,24 @@ pub fn kill_id(tables: &mut Tables, id: u8) -> Result<u16, Refusal>
 
 // The task with the id loses its mark; a suspended one is linked, and any other keeps its place.
 pub fn ready_id(tables: &mut Tables, id: u8) -> Result<u16, Refusal>
-    requires { Stands tables.old }
     ensures { Does (ById id by.Ready) tables.old tables.new result }
 {
-    let Some(caller) = tables.tasks.running() else {
-        return Err(Refusal::NoTask);
-    };
+    let caller = tables.caller()?;
     let Some(task) = tables.tasks.find(id) else {
         return Err(Refusal::NoSuchId);
     };
-    if task == caller {
-        tables.tasks.turn();
-        return Ok(0);
+    if task != caller {
+        tables.tasks.ready_other(task);
     }
-    tables.tasks.ready_other(task);
     tables.tasks.turn();
     Ok(0)
 }
 
 // The task with the id gets the mark; a ready one is taken out and suspended, and any other keeps its place.
 pub fn suspend_id(tables: &mut Tables, id: u8) -> Result<u16, Refusal>
-    requires { Stands tables.old }
     ensures { Does (ById id by.Suspend) tables.old tables.new result }
 {
-    let Some(caller) = tables.tasks.running() else {
-        return Err(Refusal::NoTask);
-    };
+    let caller = tables.caller()?;
     let Some(task) = tables.tasks.find(id) else {
         return Err(Refusal::NoSuchId);
     };
@@ -94,12 +82,9 @@ pub fn suspend_id(tables: &mut Tables, id: u8) -> Result<u16, Refusal>
 
 // The task with the id gets a level, where 0 stands for 1; a ready one is taken out and linked again.
 pub fn set_level_id(tables: &mut Tables, id: u8, level: u8) -> Result<u16, Refusal>
-    requires { Stands tables.old }
     ensures { Does (ById id (by.SetLevel level)) tables.old tables.new result }
 {
-    let Some(caller) = tables.tasks.running() else {
-        return Err(Refusal::NoTask);
-    };
+    let caller = tables.caller()?;
     let Some(task) = tables.tasks.find(id) else {
         return Err(Refusal::NoSuchId);
     };
@@ -113,12 +98,9 @@ pub fn set_level_id(tables: &mut Tables, id: u8, level: u8) -> Result<u16, Refus
 
 // What holds of the task with the id, as a sum: 1 at a unit, 2 with the mark, 4 at a cell, 8 for a due tick.
 pub fn status_id(tables: &Tables, id: u8) -> Result<u16, Refusal>
-    requires { Stands tables.now }
     ensures { Does (ById id by.Status) tables.now tables.now result }
 {
-    let Some(_caller) = tables.tasks.running() else {
-        return Err(Refusal::NoTask);
-    };
+    tables.caller()?;
     let Some(task) = tables.tasks.find(id) else {
         return Err(Refusal::NoSuchId);
     };

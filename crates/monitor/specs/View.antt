@@ -1,16 +1,9 @@
--- The state of the rules that a monitor stands for.
+-- What the units of a monitor stand for.
 use Rattle.std.specs.Prelude.{List, [], ◌∷◌}
 use Rattle.unit.specs.Medium.{Medium}
 use Rattle.unit.specs.declared.Unit.{Ghosts}
-use Rattle.rules.specs.State.{State}
-use Rattle.kernel.specs.View as kernel
-use Rattle.monitor.specs.declared.Monitor.{Monitor}
 use Rattle.monitor.specs.declared.Units.{Units}
 
 -- what the four units mean; what each kind means is handed in
 abbrev pub media : {A B C D : Type 0} → Ghosts A → Ghosts B → Ghosts C → Ghosts D → Units A B C D → List Medium
 media a b c d u = a.medium u.unit_0 ∷ b.medium u.unit_1 ∷ c.medium u.unit_2 ∷ d.medium u.unit_3 ∷ []
-
--- the state, with its units
-abbrev pub state : {A B C D : Type 0} → Ghosts A → Ghosts B → Ghosts C → Ghosts D → Monitor A B C D → State
-state a b c d m = kernel.state (media a b c d m.units) m.kernel

@@ -1,72 +1,72 @@
 // What a host can read off a monitor.
 
 ghost use Rattle.std.specs.Prelude.{◌≡◌, ◌<◌, ◌≤◌, length, MatchOption};
-ghost use Rattle.kernel.specs.Places.{place_in};
-ghost use Rattle.monitor.specs.View.{media, state};
+ghost use Rattle.tables.specs.Places.{place_in};
+ghost use Rattle.monitor.specs.View.{media};
 ghost use Rattle.rules.specs.Rules.{outcome_text};
 ghost use Rattle.rules.specs.Sound.{OnePlace};
 ghost use Rattle.rules.specs.State.{task_of, word_of};
 ghost use Rattle.tasks.specs.Parts.{as_task};
 
 use crate::{Monitor, Units};
-use kernel::Place;
+use tables::Place;
 use tasks::Task;
 use unit::Unit;
 
 impl<A: Unit, B: Unit, C: Unit, D: Unit> Monitor<A, B, C, D> {
     // The number of task records.
     pub fn tasks(&self) -> usize
-        ensures { result ≡ length (state A.Unit B.Unit C.Unit D.Unit self.now).table.tasks }
+        ensures { result ≡ length self.now.table.tasks }
     {
-        self.kernel.tasks()
+        self.tables.count()
     }
 
     // The running record, if a task runs.
     pub fn running(&self) -> Option<u8>
-        ensures { result ≡ (state A.Unit B.Unit C.Unit D.Unit self.now).table.running }
+        ensures { result ≡ self.now.table.running }
     {
-        self.kernel.running()
+        self.tables.running()
     }
 
     // The record `k`, if there is one.
     pub fn task(&self, k: usize) -> Option<&Task>
-        ensures { MatchOption result (length (state A.Unit B.Unit C.Unit D.Unit self.now).table.tasks ≤ k) (λ t. (k < length (state A.Unit B.Unit C.Unit D.Unit self.now).table.tasks) × (as_task t.now ≡ task_of (state A.Unit B.Unit C.Unit D.Unit self.now) k)) }
+        ensures { MatchOption result (length self.now.table.tasks ≤ k) (λ t. (k < length self.now.table.tasks) × (as_task t.now ≡ task_of self.now k)) }
     {
-        self.kernel.task(k)
+        self.tables.task(k)
     }
 
     // Where the record `k` is, if there is one. Every record of every monitor is at exactly one place.
     pub fn place(&self, k: usize) -> Option<Place>
-        ensures told { MatchOption result (length (state A.Unit B.Unit C.Unit D.Unit self.now).table.tasks ≤ k) (λ p. (k < length (state A.Unit B.Unit C.Unit D.Unit self.now).table.tasks) × (p ≡ place_in (state A.Unit B.Unit C.Unit D.Unit self.now) k)) }
-        ensures once { OnePlace (state A.Unit B.Unit C.Unit D.Unit self.now) }
+        ensures told { MatchOption result (length self.now.table.tasks ≤ k) (λ p. (k < length self.now.table.tasks) × (p ≡ place_in self.now k)) }
+        ensures once { OnePlace self.now }
     {
-        self.kernel.place(k)
+        self.tables.place(k)
     }
 
     // The word of a cell.
     pub fn cell(&self, cell: u8) -> u16
-        ensures { result ≡ word_of (state A.Unit B.Unit C.Unit D.Unit self.now).cells cell }
+        ensures { result ≡ word_of self.now.cells cell }
     {
-        self.kernel.cell(cell)
+        self.tables.cell(cell)
     }
 
     // The reading of the clock.
     pub fn clock(&self) -> u64
-        ensures { result ≡ (state A.Unit B.Unit C.Unit D.Unit self.now).clock }
+        ensures { result ≡ self.now.clock }
     {
-        self.kernel.clock()
+        self.tables.reading()
     }
 
     // The bytes that the running task's latest transfer has read, which stand behind its outcome.
     pub fn outcome_text(&self) -> &[u8]
-        ensures { result.now ≡ outcome_text (state A.Unit B.Unit C.Unit D.Unit self.now) }
+        ensures { result.now ≡ outcome_text self.now }
     {
-        self.kernel.outcome_text()
+        self.tables.outcome_text()
     }
 
     // The units.
     pub fn units(&self) -> &Units<A, B, C, D>
-        ensures { media A.Unit B.Unit C.Unit D.Unit result.now ≡ (state A.Unit B.Unit C.Unit D.Unit self.now).units }
+        ensures { media A.Unit B.Unit C.Unit D.Unit result.now ≡ self.now.units }
     {
         &self.units
     }

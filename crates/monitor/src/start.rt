@@ -1,14 +1,14 @@
 // The start of a monitor, and its end.
 
 ghost use Rattle.generation.specs.Answers.{sealed_rate, sealed_tasks, ticks};
-ghost use Rattle.monitor.specs.View.{media, state};
+ghost use Rattle.monitor.specs.View.{media};
 ghost use Rattle.rules.specs.State.{begin};
 ghost use Rattle.std.specs.Prelude.{◌≡◌, MatchResult};
 
 use crate::{Monitor, NotStarted, Units};
 use generation::Sealed;
-use kernel::Kernel;
 use std::alloc::Global;
+use tables::Tables;
 use unit::Unit;
 
 impl<A: Unit, B: Unit, C: Unit, D: Unit> Monitor<A, B, C, D> {
@@ -19,19 +19,18 @@ impl<A: Unit, B: Unit, C: Unit, D: Unit> Monitor<A, B, C, D> {
         sealed: Sealed,
         units: Units<A, B, C, D>,
     ) -> Result<Monitor<A, B, C, D>, NotStarted<A, B, C, D>>
-        ensures { MatchResult result (λ m. state A.Unit B.Unit C.Unit D.Unit m ≡ begin (sealed_tasks sealed) (ticks (sealed_rate sealed)) (media A.Unit B.Unit C.Unit D.Unit units)) (λ e. (e.sealed ≡ sealed) × (e.units ≡ units)) }
+        ensures { MatchResult result (λ m. m ≡ begin (sealed_tasks sealed) (ticks (sealed_rate sealed)) (media A.Unit B.Unit C.Unit D.Unit units)) (λ e. (e.sealed ≡ sealed) × (e.units ≡ units)) }
     {
-        match Kernel::of(heap, sealed.tasks() as usize, sealed.rate().ticks()) {
-            Ok(kernel) => Ok(Monitor { kernel, units }),
-            Err(_) => Err(NotStarted { sealed, units }),
-        }
+        let Ok(tables) = Tables::of(heap, sealed.tasks() as usize, sealed.rate().ticks()) else {
+            return Err(NotStarted { sealed, units });
+        };
+        Ok(Monitor { tables, units })
     }
 
     // Ends the monitor and hands back its units, with all that they have taken and given.
     pub fn into_units(self) -> Units<A, B, C, D>
-        ensures { media A.Unit B.Unit C.Unit D.Unit result ≡ (state A.Unit B.Unit C.Unit D.Unit self).units }
+        ensures { media A.Unit B.Unit C.Unit D.Unit result ≡ self.units }
     {
-        let Monitor { kernel: _, units } = self;
-        units
+        self.units
     }
 }

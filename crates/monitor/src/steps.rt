@@ -5,7 +5,7 @@ ghost use Rattle.std.specs.Prelude.{◌≡◌, ◌+◌, ◌≤◌, ◌++◌, len
 ghost use Rattle.calls.specs.Calls.{call_with};
 ghost use Rattle.generation.specs.Answers.{sealed_rate, sealed_tasks, ticks};
 ghost use Rattle.monitor.specs.Promises.{GoesOn, Made, Performed, steps_of};
-ghost use Rattle.monitor.specs.View.{media, state};
+ghost use Rattle.monitor.specs.View.{media};
 ghost use Rattle.rules.specs.Laws.{Lawful};
 ghost use Rattle.rules.specs.Runs.{after, answers as answersOf};
 ghost use Rattle.rules.specs.State.{begin};
@@ -19,7 +19,7 @@ use unit::Unit;
 impl<A: Unit, B: Unit, C: Unit, D: Unit> Monitor<A, B, C, D> {
     // Makes the call that a step is.
     fn make(&mut self, step: Call<&[u8]>) -> Result<u16, Refusal>
-        ensures made { Made (call_with (λ t. t.now) step.entry) (state A.Unit B.Unit C.Unit D.Unit self.old) (state A.Unit B.Unit C.Unit D.Unit self.new) result }
+        ensures made { Made (call_with (λ t. t.now) step.entry) self.old self.new result }
         ensures lawful { Lawful (call_with (λ t. t.now) step.entry) }
     {
         match step {
@@ -50,9 +50,9 @@ impl<A: Unit, B: Unit, C: Unit, D: Unit> Monitor<A, B, C, D> {
     // Makes any step: a call of the running task, a tick or a service. Whatever list of steps has brought a monitor newly
     // started over these units to where this one is, all laws hold of that list with this step added.
     pub fn step(&mut self, step: Call<&[u8]>) -> Result<u16, Refusal>
-        ensures made { Made (call_with (λ t. t.now) step.entry) (state A.Unit B.Unit C.Unit D.Unit self.old) (state A.Unit B.Unit C.Unit D.Unit self.new) result }
+        ensures made { Made (call_with (λ t. t.now) step.entry) self.old self.new result }
         ensures lawful { Lawful (call_with (λ t. t.now) step.entry) }
-        ensures laws { GoesOn (call_with (λ t. t.now) step.entry) (state A.Unit B.Unit C.Unit D.Unit self.old) (state A.Unit B.Unit C.Unit D.Unit self.new) }
+        ensures laws { GoesOn (call_with (λ t. t.now) step.entry) self.old self.new }
     {
         self.make(step)
     }
@@ -60,8 +60,8 @@ impl<A: Unit, B: Unit, C: Unit, D: Unit> Monitor<A, B, C, D> {
     // Makes steps one after the other and keeps the answers, for which there is room.
     fn make_all(&mut self, steps: &[Call<&[u8]>], answers: &mut Vec<Result<u16, Refusal>>)
         requires { vec_len answers.old + length steps.now ≤ vec_capacity answers.old }
-        ensures state { state A.Unit B.Unit C.Unit D.Unit self.new ≡ after (state A.Unit B.Unit C.Unit D.Unit self.old) (steps_of steps.now) }
-        ensures answers { answers.new.items ≡ answers.old.items ++ answersOf (state A.Unit B.Unit C.Unit D.Unit self.old) (steps_of steps.now) }
+        ensures state { self.new ≡ after self.old (steps_of steps.now) }
+        ensures answers { answers.new.items ≡ answers.old.items ++ answersOf self.old (steps_of steps.now) }
         ensures lawful { All Lawful (steps_of steps.now) }
     {
         for step in steps {
@@ -77,7 +77,7 @@ impl<A: Unit, B: Unit, C: Unit, D: Unit> Monitor<A, B, C, D> {
         units: Units<A, B, C, D>,
         steps: &[Call<&[u8]>],
     ) -> Result<Performance<A, B, C, D>, NotStarted<A, B, C, D>>
-        ensures { MatchResult result (λ x. Performed (begin (sealed_tasks sealed) (ticks (sealed_rate sealed)) (media A.Unit B.Unit C.Unit D.Unit units)) (steps_of steps.now) (state A.Unit B.Unit C.Unit D.Unit x.monitor) x.answers.items) (λ e. (e.sealed ≡ sealed) × (e.units ≡ units)) }
+        ensures { MatchResult result (λ x. Performed (begin (sealed_tasks sealed) (ticks (sealed_rate sealed)) (media A.Unit B.Unit C.Unit D.Unit units)) (steps_of steps.now) x.monitor x.answers.items) (λ e. (e.sealed ≡ sealed) × (e.units ≡ units)) }
     {
         let Ok(mut answers) = Vec::with_capacity(heap, steps.len()) else {
             return Err(NotStarted { sealed, units });

@@ -2,42 +2,37 @@
 
 ghost use Rattle.calls.specs.declared.call.Call.TheVariants.{Delay, Send, Tick, Wait};
 ghost use Rattle.monitor.specs.Promises.{Made};
-ghost use Rattle.monitor.specs.View.{state};
 
 use crate::Monitor;
-use calls::{Call, Refusal};
+use calls::Refusal;
 use unit::Unit;
 
 impl<A: Unit, B: Unit, C: Unit, D: Unit> Monitor<A, B, C, D> {
     // Sends a message to a cell; a running task that stays waits until it is taken.
     pub fn send(&mut self, cell: u8, message: u16, stay: bool) -> Result<u16, Refusal>
-        ensures { Made (Send cell message stay) (state A.Unit B.Unit C.Unit D.Unit self.old) (state A.Unit B.Unit C.Unit D.Unit self.new) result }
+        ensures { Made (Send cell message stay) self.old self.new result }
     {
-        self.kernel.call(Call::Send {
-            cell,
-            message,
-            stay,
-        })
+        waiting::send(&mut self.tables, cell, message, stay)
     }
 
     // Takes the message of a cell, or waits for one.
     pub fn wait(&mut self, cell: u8) -> Result<u16, Refusal>
-        ensures { Made (Wait cell) (state A.Unit B.Unit C.Unit D.Unit self.old) (state A.Unit B.Unit C.Unit D.Unit self.new) result }
+        ensures { Made (Wait cell) self.old self.new result }
     {
-        self.kernel.call(Call::Wait { cell })
+        waiting::wait(&mut self.tables, cell)
     }
 
     // Has the running task wait for some ticks.
     pub fn delay(&mut self, ticks: u16) -> Result<u16, Refusal>
-        ensures { Made (Delay ticks) (state A.Unit B.Unit C.Unit D.Unit self.old) (state A.Unit B.Unit C.Unit D.Unit self.new) result }
+        ensures { Made (Delay ticks) self.old self.new result }
     {
-        self.kernel.call(Call::Delay { ticks })
+        waiting::delay(&mut self.tables, ticks)
     }
 
     // The clock goes up by one. The answer is the number of waits that end.
     pub fn tick(&mut self) -> Result<u16, Refusal>
-        ensures { Made Tick (state A.Unit B.Unit C.Unit D.Unit self.old) (state A.Unit B.Unit C.Unit D.Unit self.new) result }
+        ensures { Made Tick self.old self.new result }
     {
-        self.kernel.call(Call::Tick)
+        waiting::tick(&mut self.tables)
     }
 }

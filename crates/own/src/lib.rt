@@ -3,7 +3,6 @@
 
 ghost use Rattle.calls.specs.declared.call.Call.TheVariants.{Create, Kill, Look, SetLevel, Suspend};
 ghost use Rattle.tables.specs.Promises.{Does};
-ghost use Rattle.tables.specs.View.{Stands};
 ghost use Rattle.rules.specs.Records.{or_else};
 ghost use Rattle.rules.specs.Rules.{seen};
 ghost use Rattle.std.specs.Prelude.{◌<◌, length, ◌≡◌};
@@ -24,12 +23,9 @@ pub fn create(
     start: u16,
     message: u16,
 ) -> Result<u16, Refusal>
-    requires { Stands tables.old }
     ensures { Does (Create id level start message) tables.old tables.new result }
 {
-    let Some(caller) = tables.tasks.running() else {
-        return Err(Refusal::NoTask);
-    };
+    let caller = tables.caller()?;
     let Some(free) = tables.tasks.first_free() else {
         return Err(Refusal::NoFreeRecord);
     };
@@ -45,12 +41,9 @@ pub fn create(
 
 // The running task is killed: its record is cleared and freed.
 pub fn kill(tables: &mut Tables) -> Result<u16, Refusal>
-    requires { Stands tables.old }
     ensures { Does Kill tables.old tables.new result }
 {
-    let Some(caller) = tables.tasks.running() else {
-        return Err(Refusal::NoTask);
-    };
+    let caller = tables.caller()?;
     tables.tasks.stop();
     tables.tasks.clear(caller);
     tables.tasks.turn();
@@ -59,12 +52,9 @@ pub fn kill(tables: &mut Tables) -> Result<u16, Refusal>
 
 // The running task gets the mark and goes to the suspended chain.
 pub fn suspend(tables: &mut Tables) -> Result<u16, Refusal>
-    requires { Stands tables.old }
     ensures { Does Suspend tables.old tables.new result }
 {
-    let Some(caller) = tables.tasks.running() else {
-        return Err(Refusal::NoTask);
-    };
+    let caller = tables.caller()?;
     tables.tasks.stop();
     tables.tasks.set_mark(caller, true);
     tables.tasks.suspend(caller);
@@ -74,12 +64,9 @@ pub fn suspend(tables: &mut Tables) -> Result<u16, Refusal>
 
 // The running task gets a level; 0 stands for 1.
 pub fn set_level(tables: &mut Tables, level: u8) -> Result<u16, Refusal>
-    requires { Stands tables.old }
     ensures { Does (SetLevel level) tables.old tables.new result }
 {
-    let Some(caller) = tables.tasks.running() else {
-        return Err(Refusal::NoTask);
-    };
+    let caller = tables.caller()?;
     tables.tasks.set_level(caller, or_else(1, level));
     tables.tasks.turn();
     Ok(0)
@@ -87,12 +74,9 @@ pub fn set_level(tables: &mut Tables, level: u8) -> Result<u16, Refusal>
 
 // A field of the running task's record is told; nothing changes.
 pub fn look(tables: &Tables, at: LookedAt) -> Result<u16, Refusal>
-    requires { Stands tables.now }
     ensures { Does (Look at) tables.now tables.now result }
 {
-    let Some(caller) = tables.tasks.running() else {
-        return Err(Refusal::NoTask);
-    };
+    let caller = tables.caller()?;
     Ok(told(tables.tasks.task(caller), at))
 }
 

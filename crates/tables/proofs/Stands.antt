@@ -1,19 +1,18 @@
 -- What is kept of every state: how it is read off the tables, and how a step keeps it.
-use Rattle.std.proofs.Common.{◌≡◌, ℕ, ◌+◌, ◌<◌, ◌≤◌, Bool, true, false, leb, List, [], ◌∷◌, length, Some, Option, sym, refl, ap, ◌∙◌, subst, arith}
+use Rattle.std.proofs.Common.{◌≡◌, ℕ, ◌+◌, ◌<◌, ◌≤◌, Bool, true, false, List, [], ◌∷◌, length, Some, Option, sym, refl, ap, ◌∙◌, subst, arith}
 use mathlib.Core.Bool.{Bool-set}
 use mathlib.Core.Logic.{∥∥₁_elim, ∥∥₁_map}
 use native.Mathlib.Nat.{ℕ_set}
 use lib.ListN.{length-replicate}
+use Rattle.std.specs.Bool.{then_some}
 use Rattle.std.specs.Option.{option_to_list}
-use Rattle.std.proofs.lemmas.Bool.{and_parts, le-leb}
+use Rattle.std.specs.Prelude.{MatchResult, None, is_some, ok_or, replicate, unwrap_or}
+use Rattle.calls.specs.declared.refusal.Refusal.TheVariants.{NoTask}
+use Rattle.std.proofs.lemmas.Bool.{and_parts, le-leb, leb-true}
 use Rattle.std.proofs.lemmas.Bool.Decides.{nat_tests}
-use Rattle.chain.specs.Lists.{count, first, has, one, rest}
+use Rattle.chain.specs.Lists.{count, first, one, rest}
 use Rattle.chain.proofs.Members.{count_none}
-use Rattle.tasks.specs.declared.Tasks.{Tasks}
 use Rattle.tasks.specs.View.{table}
-use Rattle.clock.specs.declared.ClockWaits.{ClockWaits}
-use Rattle.cells.specs.declared.Cells.{Cells}
-use Rattle.queues.specs.declared.four.Queues.{Queues}
 use Rattle.clock.specs.View as clock
 use Rattle.cells.specs.View as cells
 use Rattle.queues.specs.Four as queues
@@ -21,7 +20,7 @@ use Rattle.queues.specs.Number.{number_of}
 use Rattle.queues.specs.declared.number.UnitNumber.{UnitNumber}
 use Rattle.queues.specs.declared.number.UnitNumber.TheVariants.{Unit0, Unit1, Unit2, Unit3}
 use Rattle.unit.specs.Medium.{Medium}
-use Rattle.rules.specs.State.{Request, State, Table, Task, begin, blank, record_in, with_units}
+use Rattle.rules.specs.State.{Cells, ClockWait, Request, State, Table, Task, begin, begin_cells, begin_table, blank, record_in, with_units}
 use Rattle.rules.specs.Tables.{change, stop}
 use Rattle.rules.specs.Clock.{last_reading}
 use Rattle.rules.specs.Records.{all_askers, askers, sleepers, waiters}
@@ -31,14 +30,11 @@ use Rattle.rules.specs.Sound.{OnePlace, all_fit, fits, in_table, in_waits}
 use Rattle.rules.proofs.Counts.{in_change, one_same, size-change}
 use Rattle.rules.proofs.Waits.{count-one_queue}
 use Rattle.rules.proofs.Sounds.{foremost-step, good_begin, size_step, sound-step}
-use Rattle.tables.specs.Promises.{RoomFor, SameRoom}
+use Rattle.tables.specs.Caller.{Caller, NoCaller}
+use Rattle.tables.specs.Parts.{Standing, StandsIn, blanks}
 use Rattle.tables.specs.Spread.{Spread}
-use Rattle.tables.specs.View.{Standing, Stands, blanks, size, state}
+use Rattle.tables.specs.View.{state}
 use Rattle.tables.specs.declared.Tables.{Tables}
-
--- the state of some parts
-abbrev pub state_of : List Medium → Tasks → ClockWaits → Cells → Queues → ℕ → Bool → State
-state_of us tasks waits x requests reading timed = state us (record { tasks = tasks; waits = waits; cells = x; queues = requests; clock = reading; timed = timed })
 
 -- Steps -----------------------------------------------------------------------------------------------------------------------
 
@@ -72,49 +68,54 @@ with_units_lem s us four h =
       foremost = h.foremost;
     }
 
--- the tables after a step over some units stand again
-pub kept-over : (x y : Tables) (step : Step) (us vs : List Medium) → length us ≡ 4 → Lawful step → state vs y ≡ (apply step (state us x)).state → SameRoom x y → Stands x → Stands y
-kept-over x y step us vs four ok e w h =
-    let u : ∥ Standing (state us x) ∥₁ = ∥∥₁_map h.2 (with_units_lem (state blanks x) us four) in
-    let n : size y ≡ size x = size-kept (state us x) (state vs y) step e u in
-    let f = h.0 in
-    let r = h.1 in
-    (omega arith, (omega arith, omega arith, omega arith), ∥∥₁_map (stands_step (state us x) (state vs y) step ok e u) (with_units_lem (state vs y) blanks refl))
+module _ {s : State} {a b c : ℕ} where
+  -- after a step it holds again
+  after_step : (r : State) (x y z : ℕ) (step : Step) → Lawful step → s ≡ (apply step r).state → (a ≡ x) × (b ≡ y) × (c ≡ z) → StandsIn r x y z → StandsIn s a b c
+  after_step r x y z step ok e w h =
+      let n : length s.table.tasks ≡ length r.table.tasks = size-kept r s step e h.state in
+      let f = h.few in let i = h.sleepers in let j = h.waiters in let k = h.askers in
+      record { few = omega arith; sleepers = omega arith; waiters = omega arith; askers = omega arith; state = stands_step r s step ok e h.state }
 
--- over any units, since what holds does not depend on them
-pub kept : (x y : Tables) (step : Step) → Lawful step → state blanks y ≡ (apply step (state blanks x)).state → SameRoom x y → Stands x → Stands y
-kept x y step ok e w h = kept-over x y step blanks blanks refl ok e w h
+  over_units : (us : List Medium) → length us ≡ 4 → StandsIn s a b c → StandsIn (with_units us s) a b c
+  over_units us four h = record { few = h.few; sleepers = h.sleepers; waiters = h.waiters; askers = h.askers; state = ∥∥₁_map h.state (with_units_lem s us four) }
+
+  -- the tables after a step stand again
+  pub kept : (x : Tables) (step : Step) → Lawful step → s ≡ (apply step (state blanks x)).state → (a ≡ clock.room x.waits) × (b ≡ cells.room x.cells) × (c ≡ queues.room_of x.queues) → StandsIn s a b c
+  kept x step ok e w = after_step (state blanks x) _ _ _ step ok e w x.stands
+
+-- and so they do after a step over any units, since what holds does not depend on them
+pub kept-over : {s : State} {a b c : ℕ} (x : Tables) (step : Step) (us : List Medium) → length us ≡ 4 → Lawful step → s ≡ (apply step (state us x)).state
+    → (a ≡ clock.room x.waits) × (b ≡ cells.room x.cells) × (c ≡ queues.room_of x.queues) → StandsIn (with_units blanks s) a b c
+kept-over {s = s} x step us four ok e w = over_units {s = s} blanks refl (after_step {s = s} (state us x) _ _ _ step ok e w (over_units {s = state blanks x} us four x.stands))
 
 -- Places ----------------------------------------------------------------------------------------------------------------------
 
 -- every record is at exactly one place
-pub one_place : (k : Tables) → Stands k → OnePlace (state blanks k)
-one_place k h t = ∥∥₁_elim h.2 (ℕ_set _ _) (λ h. h.sound.one_place t)
-
--- a task that runs is one of the records, and stands nowhere else
-pub record Caller (k : Tables) (t : ℕ) : Type 0 where
-  pub within : t < length (table k.tasks).tasks
-  pub stopped : in_table t (stop (table k.tasks)) ≡ 0
-  pub awake : has t (sleepers (clock.sleeping k.waits)) ≡ false
-  pub heard : has t (waiters (cells.cells k.cells).waits) ≡ false
-  pub served : has t (all_askers (queues.queues k.queues)) ≡ false
+pub one_place : (k : Tables) → OnePlace (state blanks k)
+one_place k t = ∥∥₁_elim k.stands.state (ℕ_set _ _) (λ h. h.sound.one_place t)
 
 in_running : (t : ℕ) (a : Table) → a.running ≡ Some t → in_table t a ≡ in_table t (stop a) + 1
 unfolding in_table stop
 in_running t a e = let z : count t (option_to_list a.running) ≡ 1 = ap (λ (o : Option ℕ). count t (option_to_list o)) e ∙ (let o = one_same t in omega arith) in omega arith
 
-pub caller : (k : Tables) → Stands k → (t : ℕ) → Some t ≡ (table k.tasks).running → Caller k t
-caller k h t e =
-    let o = one_place k h t in
+pub caller : (k : Tables) (t : ℕ) → Some t ≡ (table k.tasks).running → Caller k t
+caller k t e =
+    let o = one_place k t in
     let r = in_running t (table k.tasks) (sym e) in
     let n : in_waits t (state blanks k) ≡ 0 = grind (arith, nat_tests) in
     record {
+      runs = e;
       within = grind (arith, nat_tests);
       stopped = grind (arith, nat_tests);
       awake = count_none t (sleepers (clock.sleeping k.waits)) (omega arith);
       heard = count_none t (waiters (cells.cells k.cells).waits) (omega arith);
       served = count_none t (all_askers (queues.queues k.queues)) (omega arith);
     }
+
+-- whether one runs
+pub called : (k : Tables) (o : Option ℕ) → o ≡ (table k.tasks).running → MatchResult (ok_or o NoTask) (Caller k) (NoCaller k)
+called k None e = record { refused = refl; idle = e }
+called k (Some t) e = caller k t e
 
 -- the caller, which runs no longer, is nowhere
 pub record Left (t : ℕ) (a : Table) : Type 0 where
@@ -125,26 +126,26 @@ stopped-size : (a : Table) → length (stop a).tasks ≡ length a.tasks
 unfolding stop
 stopped-size a = refl
 
-pub left : (k : Tables) → Stands k → (t : ℕ) (a : Table) → Some t ≡ (table k.tasks).running → a ≡ stop (table k.tasks) → Left t a
-left k st t a e is = let h = caller k st t e in let z = stopped-size (table k.tasks) in subst (Left t) (sym is) (record { within = omega arith; nowhere = h.stopped })
+pub left : {k : Tables} {t : ℕ} {a : Table} → Caller k t → a ≡ stop (table k.tasks) → Left t a
+left {k = k} {t = t} h is = let w = h.within in let z = stopped-size (table k.tasks) in subst (Left t) (sym is) (record { within = omega arith; nowhere = h.stopped })
 
 -- nor is it after a change of its record
-pub left-changed : (t : ℕ) (f : Task → Task) (a b : Table) → b ≡ change t f a → Left t a → Left t b
-left-changed t f a b is h = let z = size-change t f a in let i = in_change t t f a in subst (Left t) (sym is) (record { within = (let w = h.within in omega arith); nowhere = i ∙ h.nowhere })
+pub left-changed : {t : ℕ} {a b : Table} (f : Task → Task) → b ≡ change t f a → Left t a → Left t b
+left-changed {t = t} {a = a} f is h = let z = size-change t f a in let i = in_change t t f a in subst (Left t) (sym is) (record { within = (let w = h.within in omega arith); nowhere = i ∙ h.nowhere })
 
 -- Waits -----------------------------------------------------------------------------------------------------------------------
 
-module _ (k : Tables) (h : Stands k) where
+module _ (k : Tables) where
   -- those that wait at cells, or for a due tick, are not in the table
   pub spread-cells : Spread (table k.tasks) (waiters (cells.cells k.cells).waits)
-  spread-cells t = let o = one_place k h t in grind (arith, nat_tests)
+  spread-cells t = let o = one_place k t in grind (arith, nat_tests)
 
   pub spread-clock : Spread (table k.tasks) (sleepers (clock.sleeping k.waits))
-  spread-clock t = let o = one_place k h t in grind (arith, nat_tests)
+  spread-clock t = let o = one_place k t in grind (arith, nat_tests)
 
   -- the clock reads at most its last reading
-  pub clock-bound : leb k.clock last_reading ≡ true
-  clock-bound = ∥∥₁_elim h.2 (Bool-set _ _) (λ h. le-leb k.clock last_reading h.sound.clock)
+  pub clock-bound : (reading : ℕ) → k.clock ≡ Some reading → reading ≤ last_reading
+  clock-bound reading e = leb-true reading last_reading (∥∥₁_elim k.stands.state (Bool-set _ _) (λ h. le-leb reading last_reading (subst (λ (o : Option ℕ). unwrap_or o 0 ≤ last_reading) e h.sound.clock)))
 
 -- Requests --------------------------------------------------------------------------------------------------------------------
 
@@ -166,11 +167,11 @@ starts_with : (r : Request) (q : List Request) → Some r ≡ first q → q ≡ 
 starts_with r [] e = let z : ◌≡◌ {A = ℕ} 0 1 = cc in absurd (omega arith)
 starts_with r (x ∷ xs) e = let z : x ≡ r = cc in ap (λ (i : Request). i ∷ xs) z
 
-pub first_request : (k : Tables) → Stands k → (unit : UnitNumber) (r : Request) → Some r ≡ first (queues.queue_at unit k.queues) → First k unit r
-first_request k st unit r e =
+pub first_request : (k : Tables) (unit : UnitNumber) (r : Request) → Some r ≡ first (queues.queue_at unit k.queues) → First k unit r
+first_request k unit r e =
     let q = queues.queue_at unit k.queues in
     let s : q ≡ r ∷ rest q = starts_with r q e in
-    let o = one_place k st r.task in
+    let o = one_place k r.task in
     let c = count-one_queue r.task (queues.queues k.queues) (number_of unit) (low unit) in
     let z : count r.task (askers q) ≡ one r.task r.task + count r.task (askers (rest q)) = ap (λ (i : List Request). count r.task (askers i)) s in
     let w = one_same r.task in
@@ -178,7 +179,7 @@ first_request k st unit r e =
       starts = s;
       within = grind (arith, nat_tests);
       nowhere = grind (arith, nat_tests);
-      fit = ∥∥₁_elim st.2 (Bool-set _ _) (λ h. (and_parts (fits (record_in (table k.tasks) r.task) r) (all_fit (table k.tasks) (rest q)) (sym (ap (all_fit (table k.tasks)) s) ∙ h.sound.requests (number_of unit))).0);
+      fit = ∥∥₁_elim k.stands.state (Bool-set _ _) (λ h. (and_parts (fits (record_in (table k.tasks) r.task) r) (all_fit (table k.tasks) (rest q)) (sym (ap (all_fit (table k.tasks)) s) ∙ h.sound.requests (number_of unit))).0);
     }
 
 -- its record put anew, the task is nowhere still
@@ -190,9 +191,22 @@ put k unit r y a h is =
 
 -- The start -------------------------------------------------------------------------------------------------------------------
 
--- tables that begin as the rules do stand
-pub begun : (n : ℕ) (timed : Bool) (x : Tables) → 1 ≤ n → n ≤ 64 → state blanks x ≡ begin n timed blanks → RoomFor n x → Stands x
-begun n timed x some few is a =
-    let l : size x ≡ n = ap (λ (s : State). length s.table.tasks) is ∙ length-replicate n blank in
+-- a state whose parts are as at the start
+pub starts : (n : ℕ) (timed : Bool) (us : List Medium) (a : Table) (ws : List ClockWait) (x : Cells) (qs : List (List Request)) (o : Option ℕ)
+    → a ≡ begin_table n → ws ≡ [] → x ≡ begin_cells → qs ≡ replicate 4 [] → o ≡ then_some timed 0
+    → record { table = a; sleeping = ws; cells = x; queues = qs; units = us; clock = unwrap_or o 0; timed = is_some o } ≡ begin n timed us
+starts n true us a ws x qs o e f g h i = cc
+starts n false us a ws x qs o e f g h i = cc
+
+-- a state that begins as the rules do stands
+pub begun : (n : ℕ) (timed : Bool) (s : State) (a b c : ℕ) → 1 ≤ n → n ≤ 64 → s ≡ begin n timed blanks → (a ≡ n) × (b ≡ n) × (c ≡ n) → StandsIn s a b c
+begun n timed s a b c some few is w =
+    let l : length s.table.tasks ≡ n = ap (λ (s : State). length s.table.tasks) is ∙ length-replicate n blank in
     let g = good_begin n timed blanks some refl in
-    (omega arith, (omega arith, omega arith, omega arith), ∣ subst Standing (sym is) (record { sound = g.sound; foremost = g.fore }) ∣₁)
+    record {
+      few = omega arith;
+      sleepers = omega arith;
+      waiters = omega arith;
+      askers = omega arith;
+      state = ∣ subst Standing (sym is) (record { sound = g.sound; foremost = g.fore }) ∣₁;
+    }

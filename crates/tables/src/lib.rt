@@ -2,10 +2,16 @@
 // a state of the rules, whatever the units are. Each call of the monitor is a function over them, in a crate of its own.
 #![tactic(auto)]
 
+ghost use Rattle.tables.specs.Parts.{StandsOf};
+
+mod caller;
+mod place;
+mod reads;
 mod start;
 
 use cells::Cells;
 use clock::ClockWaits;
+pub use place::Place;
 use queues::Queues;
 use tasks::Tasks;
 
@@ -15,7 +21,9 @@ pub struct Tables {
     pub waits: ClockWaits,
     pub cells: Cells,
     pub queues: Queues,
-    pub clock: u64,
-    // whether there is a clock
-    pub timed: bool,
+    // the reading of the clock, if there is a clock
+    pub clock: Option<u64>,
+    // every record is at exactly one place, marks are as they may be, chains are sorted, and no ready task ranks above the
+    // running one
+    ghost stands: { StandsOf tasks waits cells queues clock },
 }

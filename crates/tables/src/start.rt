@@ -14,8 +14,8 @@ use std::alloc::{AllocError, Global};
 use tasks::Tasks;
 
 impl Tables {
-    // Record 0 runs and the others of `n` records are free in rising order; nobody waits, the cells are zero, and the clock
-    // reads 0. An error where memory is wanting.
+    // Record 0 runs and the others of `n` records are free in rising order; nobody waits, the cells are zero, and the clock,
+    // if there is one, reads 0. An error where memory is wanting.
     pub fn of(heap: Global, n: usize, timed: bool) -> Result<Tables, AllocError>
         requires some { 1 ≤ n }
         requires few { n ≤ 64 }
@@ -31,8 +31,7 @@ impl Tables {
             waits,
             cells,
             queues,
-            clock: 0,
-            timed,
+            clock: timed.then_some(0),
         })
     }
 }

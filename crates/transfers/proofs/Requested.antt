@@ -22,7 +22,7 @@ use Rattle.rules.specs.Acts.{Done, refuse}
 use Rattle.rules.specs.Rules.{apply, by_caller, of_unit}
 use Rattle.rules.specs.Transfers.{asking, bad_length, enqueue, has_line_end, line, transferring}
 use Rattle.tables.specs.declared.Tables.{Tables}
-use Rattle.tables.proofs.Stands.{state_of}
+use Rattle.tables.specs.Parts.{state_of}
 use Rattle.tables.specs.View.{state}
 use Rattle.moving.specs.Wanted.{Wanted, wanted}
 
@@ -78,8 +78,8 @@ module _ (k : Tables) (t unit : ℕ) (at : UnitNumber) (x : Transfer (List ℕ))
   module _ (w : Wanted) (tasks : Tasks) (requests : Queues) (e : Ok w ≡ wanted x) (a b : Table) (y z : Task) where
     pub granted : a ≡ stop (table k.tasks) → z ≡ record_in a t → y ≡ with_transfer w.kind w.bytes z → b ≡ change t (λ _. y) a → table tasks ≡ turn b
         → queues requests ≡ set (queues k.queues) (number_of at) (enqueue (record { task = t; size = w.size; moved = 0 }) (queue_at at k.queues))
-        → Is (state_of us tasks k.waits k.cells requests k.clock k.timed) (Ok 0) (apply (call.Transfer unit x) (state us k))
+        → Is (state_of us tasks k.waits k.cells requests k.clock) (Ok 0) (apply (call.Transfer unit x) (state us k))
     granted h n f g o q =
         let v : table tasks ≡ turn (change t (with_transfer w.kind w.bytes) (stop (table k.tasks))) = o ∙ ap turn (g ∙ change_as t (with_transfer w.kind w.bytes) y a (f ∙ ap (with_transfer w.kind w.bytes) n) ∙ ap (change t (with_transfer w.kind w.bytes)) h) in
-        is (state_of us tasks k.waits k.cells requests k.clock k.timed) (Ok 0) (apply (call.Transfer unit x) (state us k)) (asking t (number_of at) w.kind w.bytes w.size (state us k))
+        is (state_of us tasks k.waits k.cells requests k.clock) (Ok 0) (apply (call.Transfer unit x) (state us k)) (asking t (number_of at) w.kind w.bytes w.size (state us k))
         (asked_of ∙ ap (asks t (number_of at) (state us k)) (sym e)) (cc) refl

@@ -26,7 +26,7 @@ use Rattle.rules.specs.Transfers.{Move, by_line, ending, going_on, move, move_in
 use Rattle.tables.specs.declared.Tables.{Tables}
 use Rattle.moving.specs.Moved.{move_for}
 use Rattle.moving.specs.Moved as moved
-use Rattle.tables.proofs.Stands.{state_of}
+use Rattle.tables.specs.Parts.{state_of}
 use Rattle.tables.specs.View.{state}
 use Rattle.transfers.proofs.Requested.{Is, is}
 use Rattle.moving.proofs.Services.{Moves}
@@ -89,7 +89,7 @@ module _ (k : Tables) (unit : UnitNumber) (m : Medium) (us : List Medium) (four 
     units_are = ap (set us u) h.medium ∙ sym (set-set us u m v.unit)
 
     pub went_on : last ≡ false → table tasks ≡ b → queues requests ≡ set (queues k.queues) u (advanced (queue_at unit k.queues))
-        → Is (state_of (set us u m') tasks k.waits k.cells requests k.clock k.timed) (Ok 0) (apply (Service u) (over m))
+        → Is (state_of (set us u m') tasks k.waits k.cells requests k.clock) (Ok 0) (apply (Service u) (over m))
     went_on l t q =
         let n : v.ends ≡ None = none_of v.ends (sym l ∙ h.ends) in
         let p : y ≡ with_bytes v.bytes (record_in (table k.tasks) r.task) = h.task ∙ ap (λ (o : Option Outcome). moved.ending v.bytes o x) n ∙ ap (with_bytes v.bytes) at in
@@ -97,11 +97,11 @@ module _ (k : Tables) (unit : UnitNumber) (m : Medium) (us : List Medium) (four 
         let c : queues requests ≡ set (queues k.queues) u ((record { task = r.task; size = r.size; moved = v.moved }) ∷ rs) =
         q ∙ ap (λ (z : List Request). set (queues k.queues) u (advanced z)) starts ∙ ap (λ (i : ℕ). set (queues k.queues) u ((record { task = r.task; size = r.size; moved = i }) ∷ rs)) (sym (move-on x.kind r x.bytes m n)) in
         let w = units_are in
-        is (state_of (set us u m') tasks k.waits k.cells requests k.clock k.timed) (Ok 0) (apply (Service u) (over m)) (going_on u r rs v (over m))
+        is (state_of (set us u m') tasks k.waits k.cells requests k.clock) (Ok 0) (apply (Service u) (over m)) (going_on u r rs v (over m))
         (by_move ∙ ap (λ (o : Option Outcome). moving u r rs v o (over m)) n) (cc) refl
 
     pub was_last : last ≡ true → table tasks ≡ turn (release r.task b) → queues requests ≡ set (queues k.queues) u rs
-        → Is (state_of (set us u m') tasks k.waits k.cells requests k.clock k.timed) (Ok 1) (apply (Service u) (over m))
+        → Is (state_of (set us u m') tasks k.waits k.cells requests k.clock) (Ok 1) (apply (Service u) (over m))
     was_last l t q =
         let some = some_of v.ends (sym l ∙ h.ends) in
         let o = some.0 in
@@ -109,5 +109,5 @@ module _ (k : Tables) (unit : UnitNumber) (m : Medium) (us : List Medium) (four 
         let a : table tasks ≡ turn (release r.task (change r.task (with_outcome v.bytes o) (table k.tasks))) =
         t ∙ ap (λ (i : Table). turn (release r.task i)) (to ∙ change_as r.task (with_outcome v.bytes o) y (table k.tasks) p) in
         let w = units_are in
-        is (state_of (set us u m') tasks k.waits k.cells requests k.clock k.timed) (Ok 1) (apply (Service u) (over m)) (ending u r rs v o (over m))
+        is (state_of (set us u m') tasks k.waits k.cells requests k.clock) (Ok 1) (apply (Service u) (over m)) (ending u r rs v o (over m))
         (by_move ∙ ap (λ (i : Option Outcome). moving u r rs v i (over m)) some.1) (cc) refl

@@ -3,7 +3,6 @@
 ghost use Rattle.calls.specs.Calls.{transfer_with};
 ghost use Rattle.calls.specs.declared.call.Call.TheVariants.{Transfer as Transfers};
 ghost use Rattle.tables.specs.Promises.{Does};
-ghost use Rattle.tables.specs.View.{Stands};
 
 use calls::{Refusal, Transfer};
 use moving::{asked, begun};
@@ -12,12 +11,9 @@ use tables::Tables;
 
 // The running task asks a unit for a transfer and waits for its end.
 pub fn transfer(tables: &mut Tables, unit: u8, transfer: Transfer<&[u8]>) -> Result<u16, Refusal>
-    requires { Stands tables.old }
     ensures { Does (Transfers unit (transfer_with (λ t. t.now) transfer.entry)) tables.old tables.new result }
 {
-    let Some(caller) = tables.tasks.running() else {
-        return Err(Refusal::NoTask);
-    };
+    let caller = tables.caller()?;
     let at = UnitNumber::of(unit)?;
     let asked = asked(transfer)?;
     tables.queues.join(at, caller, asked.size);

@@ -2,7 +2,6 @@
 
 ghost use Rattle.std.specs.Prelude.{◌≡◌, ◌<◌, length};
 ghost use Rattle.tables.specs.Promises.{Serves};
-ghost use Rattle.tables.specs.View.{Stands};
 ghost use Rattle.queues.specs.Number.{number_of};
 ghost use Rattle.rules.specs.Sound.{in_table};
 ghost use Rattle.rules.specs.Tables.{release, turn};
@@ -28,7 +27,6 @@ fn finish(tasks: &mut Tasks, t: usize)
 // The unit with the number, which is `device`, moves one byte of its first request. At the end of the transfer its
 // task is released and a turn follows, and the answer is 1; while it goes on the answer is 0.
 pub fn serve<U: Unit>(tables: &mut Tables, unit: UnitNumber, device: &mut U) -> Result<u16, Refusal>
-    requires { Stands tables.old }
     ensures { Serves (number_of unit) (U.Unit.medium device.old) (U.Unit.medium device.new) tables.old tables.new result }
 {
     let Some(first) = tables.queues.first(unit) else {

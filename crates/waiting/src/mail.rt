@@ -5,10 +5,9 @@ ghost use Rattle.cells.specs.View as post;
 ghost use Rattle.chain.specs.Lists.{first};
 ghost use Rattle.tables.specs.Spread.{Spread};
 ghost use Rattle.tables.specs.Promises.{Does};
-ghost use Rattle.tables.specs.View.{Stands};
 ghost use Rattle.rules.specs.Mail.{empty_cell, leave_first, tasks_at};
 ghost use Rattle.rules.specs.Records.{waiters};
-ghost use Rattle.rules.specs.Tables.{hand_all, release_all, turn};
+ghost use Rattle.rules.specs.Tables.{hand_all, release_all};
 ghost use Rattle.std.specs.Option.{option_to_list};
 ghost use Rattle.tasks.specs.View.{table};
 ghost use Rattle.unit.specs.Medium.{Medium};
@@ -31,17 +30,6 @@ fn hand_all(tasks: &mut Tasks, cells: &mut Cells, cell: u8, message: u16)
     }
 }
 
-// All receivers at the cell get the message. Only then is the running task linked, and one is chosen.
-fn deliver(tasks: &mut Tasks, cells: &mut Cells, cell: u8, message: u16)
-    requires { Spread (table tasks.old) (waiters (post.cells cells.old).waits) }
-    ensures table { table tasks.new ≡ turn (hand_all message (tasks_at cell (post.cells cells.old).waits) (table tasks.old)) }
-    ensures cells { post.cells cells.new ≡ empty_cell cell (post.cells cells.old) }
-    ensures room { post.room cells.new ≡ post.room cells.old }
-{
-    hand_all(tasks, cells, cell, message);
-    tasks.turn();
-}
-
 // Releases the sender that stayed at the cell, if there is one.
 fn release_sender(tasks: &mut Tasks, cells: &mut Cells, cell: u8)
     requires { Spread (table tasks.old) (waiters (post.cells cells.old).waits) }
@@ -55,15 +43,12 @@ fn release_sender(tasks: &mut Tasks, cells: &mut Cells, cell: u8)
     tasks.release(sender);
 }
 
-// The running task sends a message to a cell. Receivers that wait there get it; otherwise the cell takes it, and a
-// caller who stays waits until it is taken.
+// The running task sends a message to a cell. All receivers that wait there get it, and only then is the running task linked;
+// otherwise the cell takes it, and a caller who stays waits until it is taken.
 pub fn send(tables: &mut Tables, cell: u8, message: u16, stay: bool) -> Result<u16, Refusal>
-    requires { Stands tables.old }
     ensures { Does (Send cell message stay) tables.old tables.new result }
 {
-    let Some(caller) = tables.tasks.running() else {
-        return Err(Refusal::NoTask);
-    };
+    let caller = tables.caller()?;
     if tables.cells.word(cell) != 0 {
         return Err(Refusal::CellFull);
     }
@@ -71,38 +56,33 @@ pub fn send(tables: &mut Tables, cell: u8, message: u16, stay: bool) -> Result<u
         return Err(Refusal::NoMessage);
     }
     if tables.cells.is_awaited(cell) {
-        deliver(&mut tables.tasks, &mut tables.cells, cell, message);
-        return Ok(0);
+        hand_all(&mut tables.tasks, &mut tables.cells, cell, message);
+    } else {
+        tables.cells.put_word(cell, message);
+        if stay {
+            tables.cells.join(caller, cell);
+            tables.tasks.stop();
+        }
     }
-    tables.cells.put_word(cell, message);
-    if !stay {
-        tables.tasks.turn();
-        return Ok(0);
-    }
-    tables.cells.join(caller, cell);
-    tables.tasks.stop();
     tables.tasks.turn();
     Ok(0)
 }
 
-// The running task takes a cell's message, and a sender who stayed goes on; or it waits for one.
+// The running task takes a cell's message, and a sender who stayed goes on; or it waits for one. The answer is the message, or
+// 0 where there is none yet.
 pub fn wait(tables: &mut Tables, cell: u8) -> Result<u16, Refusal>
-    requires { Stands tables.old }
     ensures { Does (Wait cell) tables.old tables.new result }
 {
-    let Some(caller) = tables.tasks.running() else {
-        return Err(Refusal::NoTask);
-    };
+    let caller = tables.caller()?;
     let message = tables.cells.word(cell);
     if message == 0 {
         tables.cells.join(caller, cell);
         tables.tasks.stop();
-        tables.tasks.turn();
-        return Ok(0);
+    } else {
+        tables.cells.put_word(cell, 0);
+        tables.tasks.give_word(caller, message);
+        release_sender(&mut tables.tasks, &mut tables.cells, cell);
     }
-    tables.cells.put_word(cell, 0);
-    tables.tasks.give_word(caller, message);
-    release_sender(&mut tables.tasks, &mut tables.cells, cell);
     tables.tasks.turn();
     Ok(message)
 }

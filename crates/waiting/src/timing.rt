@@ -5,7 +5,6 @@ ghost use Rattle.calls.specs.declared.call.Call.TheVariants.{Delay, Tick};
 ghost use Rattle.clock.specs.View.{room, sleeping};
 ghost use Rattle.tables.specs.Spread.{Spread};
 ghost use Rattle.tables.specs.Promises.{Does};
-ghost use Rattle.tables.specs.View.{Stands};
 ghost use Rattle.rules.specs.Clock.{due_at, later_than};
 ghost use Rattle.rules.specs.Records.{sleepers};
 ghost use Rattle.rules.specs.Tables.{release_all};
@@ -39,19 +38,14 @@ fn release_due(tasks: &mut Tasks, waits: &mut ClockWaits, reading: u64) -> u16
 
 // The running task waits for a number of ticks.
 pub fn delay(tables: &mut Tables, ticks: u16) -> Result<u16, Refusal>
-    requires { Stands tables.old }
     ensures { Does (Delay ticks) tables.old tables.new result }
 {
-    let Some(caller) = tables.tasks.running() else {
-        return Err(Refusal::NoTask);
-    };
-    if !tables.timed {
-        return Err(Refusal::NoClock);
-    }
+    let caller = tables.caller()?;
+    let reading = tables.clock.ok_or(Refusal::NoClock)?;
     if ticks == 0 {
         return Err(Refusal::NoTicks);
     }
-    let due = tables.clock + ticks as u64;
+    let due = reading + ticks as u64;
     tables.waits.join(caller, due);
     tables.tasks.stop();
     tables.tasks.turn();
@@ -60,17 +54,15 @@ pub fn delay(tables: &mut Tables, ticks: u16) -> Result<u16, Refusal>
 
 // The clock goes up by one, and all waits now due end. The answer is how many did.
 pub fn tick(tables: &mut Tables) -> Result<u16, Refusal>
-    requires { Stands tables.old }
     ensures { Does Tick tables.old tables.new result }
 {
-    if !tables.timed {
-        return Err(Refusal::NoClock);
-    }
-    if tables.clock >= LAST_READING {
+    let reading = tables.clock.ok_or(Refusal::NoClock)?;
+    if reading >= LAST_READING {
         return Err(Refusal::ClockAtEnd);
     }
-    tables.clock += 1;
-    let count = release_due(&mut tables.tasks, &mut tables.waits, tables.clock);
+    let reading = reading + 1;
+    tables.clock = Some(reading);
+    let count = release_due(&mut tables.tasks, &mut tables.waits, reading);
     tables.tasks.turn();
     Ok(count)
 }

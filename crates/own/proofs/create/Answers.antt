@@ -1,17 +1,17 @@
--- The caller and the free record are two of the records.
-use mathlib.Core.Path.{sym}
-use native.Mathlib.Omega.{arith}
+-- The free record is one of the records.
+use Rattle.std.proofs.Common.{refl, rules, sym, arith}
+use Rattle.calls.specs.declared.call.Call.TheVariants.{Create}
 use Rattle.tasks.specs.View.{table}
 use Rattle.tasks.proofs.Placing.{first-free-within}
-use Rattle.tables.proofs.Stands.{caller}
+use Rattle.tables.proofs.Stands.{kept}
 use Rattle.own.proofs.create.Goals as goal
 
-pub level_for-level-requires : goal.level_for-level-requires
-level_for-level-requires c = (caller c.args.tables.now c.requires c.in-Some.caller c.in-Some.ensures).within
+pub invariant_of-tables : goal.invariant_of-tables
+invariant_of-tables c = record { stands = kept c.args.tables.now (Create c.args.id c.args.level c.args.start c.args.message) tt (search rules) (refl, refl, refl) }
 
 pub overflow_cast-result : goal.overflow_cast-result
 overflow_cast-result c =
-    let tasks = c.args.tables.now.tasks in
-    let f = c.requires.0 in
-    let w = first-free-within (table tasks) tasks.placed c.in-Some-first_free.free (sym c.in-Some-first_free.ensures) in
+    let tables = c.args.tables.now in
+    let f = tables.stands.few in
+    let w = first-free-within (table tables.tasks) tables.tasks.placed c.in-Some.free (sym c.in-Some.ensures) in
     omega arith

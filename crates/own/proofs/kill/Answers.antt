@@ -1,9 +1,13 @@
 -- The caller, which runs no longer, is nowhere and can be cleared.
-use Rattle.tasks.specs.View.{table}
-use Rattle.tables.proofs.Stands.{left}
+use Rattle.std.proofs.Common.{refl, rules}
+use Rattle.calls.specs.declared.call.Call.TheVariants.{Kill}
+use Rattle.tables.proofs.Stands.{kept, left}
 use Rattle.own.proofs.kill.Goals as goal
 
 pub clear-requires : goal.clear-requires
 clear-requires c =
-    let h = left c.args.tables.now c.requires c.in-Some.caller (table c.stop.new.self) c.in-Some.ensures c.stop.ensures in
+    let h = left c.in_ok-caller.ensures c.stop.ensures in
     record { within = h.within; nowhere = h.nowhere }
+
+pub invariant_of-tables : goal.invariant_of-tables
+invariant_of-tables c = record { stands = kept c.args.tables.now Kill tt (search rules) (refl, refl, refl) }

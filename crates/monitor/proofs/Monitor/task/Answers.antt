@@ -1,6 +1,6 @@
--- The kernel tells it, whatever the units are.
+-- The tables tell it, whatever the units are.
 use Rattle.std.proofs.Common.{[]}
 use Rattle.monitor.proofs.Monitor.task.Goals as goal
 
 pub returns : goal.returns
-returns g c = c.task.ensures []
+returns g c = rw (← c.self.view_is) (c.task.ensures [])

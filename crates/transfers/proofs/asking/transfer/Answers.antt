@@ -8,18 +8,18 @@ use Rattle.tasks.specs.Parts.{as_task}
 use Rattle.tasks.specs.View.{table}
 use Rattle.unit.specs.Medium.{Medium}
 use Rattle.moving.specs.Wanted.{as_wanted}
-use Rattle.tables.proofs.Stands.{state_of}
+use Rattle.tables.specs.Parts.{blanks, state_of}
 use Rattle.tables.specs.View.{state}
-use Rattle.tables.proofs.Stands.{caller, left}
+use Rattle.tables.proofs.Stands.{kept, left}
 use Rattle.transfers.proofs.Requested.{Is, granted, refused}
 use Rattle.transfers.proofs.asking.transfer.Goals as goal
-use Rattle.transfers.proofs.asking.transfer.Goals.{After-turn, In_err-asked, at-returns-in_err-asked}
+use Rattle.transfers.proofs.asking.transfer.Goals.{After-turn, In_err-asked, at-returns, at-returns-in_err-asked}
 
 -- the refusal, as the rules see it
 not_done : (c : In_err-asked) (us : List Medium)
     → Is (state us c.args.tables.now) (Err c.in_err-asked.field-0.0) (apply (Transfer c.args.unit (transfer_with (λ t. t.now) c.args.transfer)) (state us c.args.tables.now))
 not_done c us =
-    refused c.args.tables.now c.in-Some.caller c.args.unit c.in_ok-at.at (transfer_with (λ t. t.now) c.args.transfer) c.in-Some.ensures c.in_ok-at.ensures us
+    refused c.args.tables.now c.in_ok-caller.caller c.args.unit c.in_ok-at.at (transfer_with (λ t. t.now) c.args.transfer) c.in_ok-caller.ensures.runs c.in_ok-at.ensures us
     c.in_err-asked.field-0.0 c.in_err-asked.ensures
 
 pub returns-in_err-asked : goal.returns-in_err-asked
@@ -29,25 +29,28 @@ returns-in_err-asked c =
 
 pub join-requires : goal.join-requires
 join-requires c =
-    let h = caller c.args.tables.now c.requires c.in-Some.caller c.in-Some.ensures in
-    let r = c.requires.1 in
-    record { within = omega (arith, h.within, r.2); fresh = h.served }
+    let h = c.in_ok-caller.ensures in
+    let r = c.args.tables.now.stands in
+    record { within = omega (arith, h.within, r.askers); fresh = h.served }
 
 pub task-requires : goal.task-requires
-task-requires c = (left c.args.tables.now c.requires c.in-Some.caller (table c.stop.new.self) c.in-Some.ensures c.stop.ensures).within
+task-requires c = (left c.in_ok-caller.ensures c.stop.ensures).within
 
 pub replace-requires : goal.replace-requires
-replace-requires c = (left c.args.tables.now c.requires c.in-Some.caller (table c.stop.new.self) c.in-Some.ensures c.stop.ensures).within
+replace-requires c = (left c.in_ok-caller.ensures c.stop.ensures).within
 
 -- the transfer, as the rules see it
 done : (c : After-turn) (us : List Medium)
-    → Is (state_of us c.turn.new.self c.args.tables.now.waits c.args.tables.now.cells c.join.new.self c.args.tables.now.clock c.args.tables.now.timed) (Ok 0)
+    → Is (state_of us c.turn.new.self c.args.tables.now.waits c.args.tables.now.cells c.join.new.self c.args.tables.now.clock) (Ok 0)
     (apply (Transfer c.args.unit (transfer_with (λ t. t.now) c.args.transfer)) (state us c.args.tables.now))
 done c us =
     let w = as_wanted c.in_ok-asked.asked in
-    granted c.args.tables.now c.in-Some.caller c.args.unit c.in_ok-at.at (transfer_with (λ t. t.now) c.args.transfer) c.in-Some.ensures c.in_ok-at.ensures us
+    granted c.args.tables.now c.in_ok-caller.caller c.args.unit c.in_ok-at.at (transfer_with (λ t. t.now) c.args.transfer) c.in_ok-caller.ensures.runs c.in_ok-at.ensures us
     w c.turn.new.self c.join.new.self c.in_ok-asked.ensures (table c.stop.new.self) (table c.replace.new.self) (as_task c.begun-task.result) (as_task c.task.result.now)
     c.stop.ensures c.task.ensures c.begun-task.ensures c.replace.ensures c.turn.ensures c.join.ensures.queues
 
 pub returns : goal.returns
-returns c = record { state = λ us. (done c us).state; answer = λ us. (done c us).answer; room = (refl, refl, c.join.ensures.room) }
+returns c = record { state = λ us. (done (at-returns c).After-turn us).state; answer = λ us. (done (at-returns c).After-turn us).answer; room = (refl, refl, c.join.ensures.room) }
+
+pub invariant_of-tables : goal.invariant_of-tables
+invariant_of-tables c = record { stands = kept c.args.tables.now (Transfer c.args.unit (transfer_with (λ t. t.now) c.args.transfer)) tt (done c blanks).state (refl, refl, c.join.ensures.room) }

@@ -1,5 +1,5 @@
 -- The first request is one that its task can have; what the move makes of it is what the rules make of it.
-use Rattle.std.proofs.Common.{◌≡◌, true, List, length, set, Ok, sym, refl, subst, arith}
+use Rattle.std.proofs.Common.{◌≡◌, true, List, length, set, length-set, Ok, sym, refl, subst, arith}
 use Rattle.std.proofs.lemmas.Bool.Decides.{nat_tests}
 use Rattle.calls.specs.declared.call.Call.TheVariants.{Service}
 use Rattle.queues.specs.Number.{number_of}
@@ -11,19 +11,19 @@ use Rattle.tasks.specs.View.{table}
 use Rattle.tasks.specs.Parts.{as_task}
 use Rattle.unit.specs.Medium.{Medium}
 use Rattle.moving.specs.Moved.{move_for}
-use Rattle.tables.proofs.Stands.{state_of}
+use Rattle.tables.specs.Parts.{blanks, state_of}
 use Rattle.tables.specs.View.{state}
 use Rattle.transfers.proofs.Requested.{Is}
 use Rattle.moving.proofs.Services.{Moves}
 use Rattle.transfers.proofs.Served.{went_on, was_last}
-use Rattle.tables.proofs.Stands.{First, first_request, put}
+use Rattle.tables.proofs.Stands.{First, first_request, kept-over, put}
 use Rattle.transfers.proofs.service.serve.Given as given
 use Rattle.transfers.proofs.service.serve.Goals as goal
-use Rattle.transfers.proofs.service.serve.Goals.{In-Some, After-replace, After-advance, After-finish, at-task-task-requires, at-one_move-moved-requires, at-replace-requires, at-finish-requires, at-returns, at-returns-then-moved}
+use Rattle.transfers.proofs.service.serve.Goals.{In-Some, After-replace, After-advance, After-finish, at-task-task-requires, at-one_move-moved-requires, at-replace-requires, at-finish-requires, at-invariant_of-tables, at-invariant_of-tables-2, at-returns, at-returns-then-moved}
 
 -- the first request
 found : (g : given.Over) (c : In-Some g) → First c.args.tables.now c.args.unit (as_request c.in-Some.first)
-found g c = first_request c.args.tables.now c.requires c.args.unit (as_request c.in-Some.first) c.in-Some.ensures
+found g c = first_request c.args.tables.now c.args.unit (as_request c.in-Some.first) c.in-Some.ensures
 
 pub task-task-requires : goal.task-task-requires
 task-task-requires g c = (found g (at-task-task-requires g c).In-Some).within
@@ -35,7 +35,7 @@ pub replace-requires : goal.replace-requires
 replace-requires g c = (found g (at-replace-requires g c).In-Some).within
 
 pub advance-requires : goal.advance-requires
-advance-requires g c = λ r e. let f = (first_request c.args.tables.now c.requires c.args.unit r (sym e)).fit in grind (arith, nat_tests)
+advance-requires g c = λ r e. let f = (first_request c.args.tables.now c.args.unit r (sym e)).fit in grind (arith, nat_tests)
 
 pub finish-requires : goal.finish-requires
 finish-requires g c =
@@ -49,26 +49,38 @@ move-is g c = record { medium = c.one_move-moved.ensures.medium; task = c.one_mo
 
 -- the transfer goes on, as the rules see it
 on : (g : given.Over) (c : After-advance g) (us : List Medium) → length us ≡ 4
-    → Is (state_of (set us (number_of c.args.unit) (g.U.Unit.medium c.one_move-moved.new.device)) c.replace.new.self c.args.tables.now.waits c.args.tables.now.cells c.advance.new.self c.args.tables.now.clock c.args.tables.now.timed)
+    → Is (state_of (set us (number_of c.args.unit) (g.U.Unit.medium c.one_move-moved.new.device)) c.replace.new.self c.args.tables.now.waits c.args.tables.now.cells c.advance.new.self c.args.tables.now.clock)
     (Ok 0) (apply (Service (number_of c.args.unit)) (state (set us (number_of c.args.unit) (g.U.Unit.medium c.args.device.now)) c.args.tables.now))
 on g c us four =
     went_on c.args.tables.now c.args.unit (g.U.Unit.medium c.args.device.now) us four
     (as_request c.in-Some.first) (as_task c.task-task.result.now) (as_task c.one_move-moved.result.task) (g.U.Unit.medium c.one_move-moved.new.device) c.one_move-moved.result.ends
-    (table c.replace.new.self) c.replace.new.self c.advance.new.self (found g (at-returns g c).In-Some).starts c.task-task.ensures (move-is g (at-returns g c).After-replace) c.replace.ensures
+    (table c.replace.new.self) c.replace.new.self c.advance.new.self (found g (at-invariant_of-tables-2 g c).In-Some).starts c.task-task.ensures (move-is g (at-invariant_of-tables-2 g c).After-replace) c.replace.ensures
     c.if-moved.false refl c.advance.ensures.queues
 
 -- the transfer ends
 last : (g : given.Over) (c : After-finish g) (us : List Medium) → length us ≡ 4
-    → Is (state_of (set us (number_of c.args.unit) (g.U.Unit.medium c.one_move-moved.new.device)) c.finish.new.tasks c.args.tables.now.waits c.args.tables.now.cells c.pop.new.self c.args.tables.now.clock c.args.tables.now.timed)
+    → Is (state_of (set us (number_of c.args.unit) (g.U.Unit.medium c.one_move-moved.new.device)) c.finish.new.tasks c.args.tables.now.waits c.args.tables.now.cells c.pop.new.self c.args.tables.now.clock)
     (Ok 1) (apply (Service (number_of c.args.unit)) (state (set us (number_of c.args.unit) (g.U.Unit.medium c.args.device.now)) c.args.tables.now))
 last g c us four =
     was_last c.args.tables.now c.args.unit (g.U.Unit.medium c.args.device.now) us four
     (as_request c.in-Some.first) (as_task c.task-task.result.now) (as_task c.one_move-moved.result.task) (g.U.Unit.medium c.one_move-moved.new.device) c.one_move-moved.result.ends
-    (table c.replace.new.self) c.finish.new.tasks c.pop.new.self (found g (at-returns-then-moved g c).In-Some).starts c.task-task.ensures (move-is g (at-returns-then-moved g c).After-replace) c.replace.ensures
+    (table c.replace.new.self) c.finish.new.tasks c.pop.new.self (found g (at-invariant_of-tables g c).In-Some).starts c.task-task.ensures (move-is g (at-invariant_of-tables g c).After-replace) c.replace.ensures
     c.if-moved.true c.finish.ensures c.pop.ensures.queues
 
 pub returns-then-moved : goal.returns-then-moved
-returns-then-moved g c = record { state = λ us four. (last g c us four).state; answer = λ us four. (last g c us four).answer; room = (refl, refl, c.pop.ensures.room) }
+returns-then-moved g c = record { state = λ us four. (last g (at-returns-then-moved g c).After-finish us four).state; answer = λ us four. (last g (at-returns-then-moved g c).After-finish us four).answer; room = (refl, refl, c.pop.ensures.room) }
 
 pub returns : goal.returns
-returns g c = record { state = λ us four. (on g c us four).state; answer = λ us four. (on g c us four).answer; room = (refl, refl, c.advance.ensures.room) }
+returns g c = record { state = λ us four. (on g (at-returns g c).After-advance us four).state; answer = λ us four. (on g (at-returns g c).After-advance us four).answer; room = (refl, refl, c.advance.ensures.room) }
+
+pub invariant_of-tables : goal.invariant_of-tables
+invariant_of-tables g c =
+    let m = g.U.Unit.medium c.args.device.now in
+    let u = number_of c.args.unit in
+    record { stands = kept-over c.args.tables.now (Service u) (set blanks u m) (length-set blanks u m) tt (last g c blanks refl).state (refl, refl, c.pop.ensures.room) }
+
+pub invariant_of-tables-2 : goal.invariant_of-tables-2
+invariant_of-tables-2 g c =
+    let m = g.U.Unit.medium c.args.device.now in
+    let u = number_of c.args.unit in
+    record { stands = kept-over c.args.tables.now (Service u) (set blanks u m) (length-set blanks u m) tt (on g c blanks refl).state (refl, refl, c.advance.ensures.room) }

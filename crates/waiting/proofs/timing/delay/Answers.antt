@@ -1,17 +1,17 @@
 -- The caller, which runs, waits nowhere, and the clock is far from what 64 bits hold.
-use Rattle.std.proofs.Common.{arith}
-use Rattle.std.proofs.lemmas.Bool.{leb-true}
-use Rattle.rules.specs.Clock.{last_reading}
-use Rattle.tables.proofs.Stands.{caller, clock-bound}
+use Rattle.std.proofs.Common.{◌≡◌, Some, refl, arith, rules}
+use Rattle.calls.specs.declared.call.Call.TheVariants.{Delay}
+use Rattle.tables.proofs.Stands.{clock-bound, kept}
 use Rattle.waiting.proofs.timing.delay.Goals as goal
 
 pub overflow_add-due : goal.overflow_add-due
-overflow_add-due c = let k = c.args.tables.now in omega (arith, leb-true k.clock last_reading (clock-bound k c.requires))
-
-pub join-requires : goal.join-requires
-join-requires c =
+overflow_add-due c =
     let k = c.args.tables.now in
-    let h = caller k c.requires c.in-Some.caller c.in-Some.ensures in
-    let r = c.requires.1.0 in
-    let w = h.within in
-    record { within = omega arith; fresh = h.awake }
+    let z : k.clock ≡ Some c.in_ok-reading.reading = grind arith in
+    omega (arith, clock-bound k c.in_ok-reading.reading z)
+
+pub invariant_of-tables : goal.invariant_of-tables
+invariant_of-tables c =
+    let k = c.args.tables.now in
+    let z : k.clock ≡ Some c.in_ok-reading.reading = grind arith in
+    record { stands = kept k (Delay c.args.ticks) c.ranges.ticks.fits (search rules) (c.join.ensures.room, refl, refl) }

@@ -1,19 +1,14 @@
 -- The clock reads at most its last reading, those that wait for a due tick are not in the table, and there is place for all.
-use Rattle.std.proofs.Common.{◌≡◌, true, eqb, arith, rules}
-use Rattle.std.proofs.lemmas.Bool.{eq-eqb, leb-true}
-use Rattle.rules.specs.Clock.{last_reading}
-use Rattle.tables.proofs.Stands.{clock-bound, spread-clock}
+use Rattle.std.proofs.Common.{◌≡◌, Some, refl, arith, rules}
+use Rattle.calls.specs.declared.call.Call.TheVariants.{Tick}
+use Rattle.tables.proofs.Stands.{kept, spread-clock}
 use Rattle.waiting.proofs.timing.tick.Goals as goal
 
-pub returns-then-tables-ge-LAST_READING : goal.returns-then-tables-ge-LAST_READING
-returns-then-tables-ge-LAST_READING c =
-    let k = c.args.tables.now in
-    let e : eqb k.clock last_reading ≡ true = eq-eqb k.clock last_reading (omega (arith, leb-true k.clock last_reading (clock-bound k c.requires))) in
-    search rules
-
 pub release_due-count-requires : goal.release_due-count-requires
-release_due-count-requires c =
+release_due-count-requires c = let h = c.args.tables.now.stands in let f = h.few in let r = h.sleepers in record { spread = spread-clock c.args.tables.now; few = omega arith }
+
+pub invariant_of-tables : goal.invariant_of-tables
+invariant_of-tables c =
     let k = c.args.tables.now in
-    let f = c.requires.0 in
-    let r = c.requires.1.0 in
-    record { spread = spread-clock k c.requires; few = omega arith }
+    let z : k.clock ≡ Some c.in_ok-reading.reading = grind arith in
+    record { stands = kept k Tick tt (search rules) (c.release_due-count.ensures.room, refl, refl) }

@@ -1,41 +1,38 @@
-// What can be read off a kernel.
+// What can be read off the tables.
 
 ghost use Rattle.std.specs.Prelude.{◌≡◌, ◌<◌, ◌≤◌, List, length, MatchOption};
-ghost use Rattle.kernel.specs.Places.{place_in};
-ghost use Rattle.kernel.specs.View.{state};
+ghost use Rattle.tables.specs.Places.{place_in};
+ghost use Rattle.tables.specs.View.{state};
 ghost use Rattle.rules.specs.Rules.{bytes_read, outcome_text};
 ghost use Rattle.rules.specs.State.{task_of, word_of};
 ghost use Rattle.tasks.specs.Parts.{as_task};
 ghost use Rattle.unit.specs.Medium.{Medium};
 
-use crate::{Kernel, Place};
+use crate::{Place, Tables};
 use calls::TransferKind;
 use tasks::Task;
 
-impl Kernel {
+impl Tables {
     // The number of records.
-    pub fn tasks(&self) -> usize
+    pub fn count(&self) -> usize
         ensures { (us : List Medium) → result ≡ length (state us self.now).table.tasks }
     {
-        self.tables.tasks.count()
+        self.tasks.count()
     }
 
     // The running task, if there is one.
     pub fn running(&self) -> Option<u8>
         ensures { (us : List Medium) → result ≡ (state us self.now).table.running }
     {
-        match self.tables.tasks.running() {
-            Some(task) => Some(task as u8),
-            None => None,
-        }
+        self.tasks.running().map(|task| task as u8)
     }
 
     // The record `k`, if there is one.
     pub fn task(&self, k: usize) -> Option<&Task>
         ensures { (us : List Medium) → MatchOption result (length (state us self.now).table.tasks ≤ k) (λ t. (k < length (state us self.now).table.tasks) × (as_task t.now ≡ task_of (state us self.now) k)) }
     {
-        if k < self.tables.tasks.count() {
-            Some(self.tables.tasks.task(k))
+        if k < self.tasks.count() {
+            Some(self.tasks.task(k))
         } else {
             None
         }
@@ -45,7 +42,7 @@ impl Kernel {
     pub fn place(&self, k: usize) -> Option<Place>
         ensures { (us : List Medium) → MatchOption result (length (state us self.now).table.tasks ≤ k) (λ p. (k < length (state us self.now).table.tasks) × (p ≡ place_in (state us self.now) k)) }
     {
-        if k < self.tables.tasks.count() {
+        if k < self.tasks.count() {
             Some(self.place_of(k))
         } else {
             None
@@ -55,17 +52,17 @@ impl Kernel {
     fn place_of(&self, k: usize) -> Place
         ensures { (us : List Medium) → result ≡ place_in (state us self.now) k }
     {
-        if self.tables.tasks.is_free(k) {
+        if self.tasks.is_free(k) {
             Place::Free
-        } else if self.tables.tasks.running() == Some(k) {
+        } else if self.tasks.running() == Some(k) {
             Place::Running
-        } else if self.tables.tasks.is_ready(k) {
+        } else if self.tasks.is_ready(k) {
             Place::Ready
-        } else if self.tables.tasks.is_suspended(k) {
+        } else if self.tasks.is_suspended(k) {
             Place::Suspended
-        } else if self.tables.cells.is_waiting(k) {
+        } else if self.cells.is_waiting(k) {
             Place::AtCell
-        } else if self.tables.waits.is_sleeping(k) {
+        } else if self.waits.is_sleeping(k) {
             Place::Delayed
         } else {
             Place::AtUnit
@@ -76,22 +73,22 @@ impl Kernel {
     pub fn cell(&self, cell: u8) -> u16
         ensures { (us : List Medium) → result ≡ word_of (state us self.now).cells cell }
     {
-        self.tables.cells.word(cell)
+        self.cells.word(cell)
     }
 
-    // The reading of the clock.
-    pub fn clock(&self) -> u64
+    // The reading of the clock; 0 where there is none.
+    pub fn reading(&self) -> u64
         ensures { (us : List Medium) → result ≡ (state us self.now).clock }
     {
-        self.tables.clock
+        self.clock.unwrap_or(0)
     }
 
     // The bytes that the running task's latest transfer has read; none if that was a write, or if there was none.
     pub fn outcome_text(&self) -> &[u8]
         ensures { (us : List Medium) → result.now ≡ outcome_text (state us self.now) }
     {
-        match self.tables.tasks.running() {
-            Some(task) => bytes_read(self.tables.tasks.task(task)),
+        match self.tasks.running() {
+            Some(task) => bytes_read(self.tasks.task(task)),
             None => &[],
         }
     }

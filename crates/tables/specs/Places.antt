@@ -3,8 +3,8 @@ use Rattle.std.specs.Prelude.{ℕ, Bool, false, cond, Some, None, Option, ◌==�
 use Rattle.chain.specs.Lists.{has}
 use Rattle.rules.specs.State.{State}
 use Rattle.rules.specs.Records.{sleepers, waiters}
-use Rattle.kernel.specs.declared.place.Place.{Place}
-use Rattle.kernel.specs.declared.place.Place.TheVariants.{Free, Running, Ready, Suspended, AtCell, Delayed, AtUnit}
+use Rattle.tables.specs.declared.place.Place.{Place}
+use Rattle.tables.specs.declared.place.Place.TheVariants.{Free, Running, Ready, Suspended, AtCell, Delayed, AtUnit}
 
 -- whether k runs
 abbrev pub runs : ℕ → Option ℕ → Bool

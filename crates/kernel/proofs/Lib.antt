@@ -1,1 +1,0 @@
--- There are no lemmas besides the answers.

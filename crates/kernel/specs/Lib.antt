@@ -1,4 +1,0 @@
--- The definitions that the contracts cite.
-pub mod View
-pub mod Places
-pub mod Promises

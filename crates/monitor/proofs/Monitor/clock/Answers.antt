@@ -1,0 +1,6 @@
+-- The tables tell it, whatever the units are.
+use Rattle.std.proofs.Common.{[]}
+use Rattle.monitor.proofs.Monitor.clock.Goals as goal
+
+pub returns : goal.returns
+returns g c = rw (← c.self.view_is) (c.reading.ensures [])
