@@ -6,35 +6,35 @@ use Rattle.chain.specs.Chains.{Apart}
 
 pub has-without : (k i : ℕ) (xs : List ℕ) → has k xs ≡ false → has k (without i xs) ≡ false
 has-without k i [] h = refl
-has-without k i (x ∷ xs) h = let r : has k xs ≡ false → has k (without i xs) ≡ false = has-without k i xs in grind (arith, nat_tests)
+has-without k i (x ∷ xs) h = let r = has-without k i xs in grind (arith, nat_tests)
 
 pub without-none : (i : ℕ) (xs : List ℕ) → has i xs ≡ false → without i xs ≡ xs
 without-none i [] h = refl
-without-none i (x ∷ xs) h = let r : has i xs ≡ false → without i xs ≡ xs = without-none i xs in grind (arith, nat_tests)
+without-none i (x ∷ xs) h = let r = without-none i xs in grind (arith, nat_tests)
 
 pub count_none : (k : ℕ) (xs : List ℕ) → count k xs ≡ 0 → has k xs ≡ false
 count_none k [] h = refl
-count_none k (x ∷ xs) h = let r : count k xs ≡ 0 → has k xs ≡ false = count_none k xs in grind (arith, nat_tests)
+count_none k (x ∷ xs) h = let r = count_none k xs in grind (arith, nat_tests)
 
 pub none-count : (k : ℕ) (xs : List ℕ) → has k xs ≡ false → count k xs ≡ 0
 none-count k [] h = refl
-none-count k (x ∷ xs) h = let r : has k xs ≡ false → count k xs ≡ 0 = none-count k xs in grind (arith, nat_tests)
+none-count k (x ∷ xs) h = let r = none-count k xs in grind (arith, nat_tests)
 
 pub some-count : (k : ℕ) (xs : List ℕ) → has k xs ≡ true → 1 ≤ count k xs
 some-count k [] h = grind (arith, nat_tests)
-some-count k (x ∷ xs) h = let r : has k xs ≡ true → 1 ≤ count k xs = some-count k xs in grind (arith, nat_tests)
+some-count k (x ∷ xs) h = let r = some-count k xs in grind (arith, nat_tests)
 
 pub count-join : (rank : ℕ → ℕ) (k x : ℕ) (xs : List ℕ) → count k (join rank x xs) ≡ one k x + count k xs
 count-join rank k x [] = refl
-count-join rank k x (y ∷ ys) = let r : count k (join rank x ys) ≡ one k x + count k ys = count-join rank k x ys in grind (arith, nat_tests)
+count-join rank k x (y ∷ ys) = let r = count-join rank k x ys in grind (arith, nat_tests)
 
 pub count-without : (k i : ℕ) (xs : List ℕ) → has i xs ≡ true → one k i + count k (without i xs) ≡ count k xs
 count-without k i [] h = grind (arith, nat_tests)
-count-without k i (x ∷ xs) h = let r : has i xs ≡ true → one k i + count k (without i xs) ≡ count k xs = count-without k i xs in grind (arith, nat_tests)
+count-without k i (x ∷ xs) h = let r = count-without k i xs in grind (arith, nat_tests)
 
 pub without-join : (rank : ℕ → ℕ) (x : ℕ) (xs : List ℕ) → has x xs ≡ false → without x (join rank x xs) ≡ xs
 without-join rank x [] h = grind (arith, nat_tests)
-without-join rank x (y ∷ ys) h = let r : has x ys ≡ false → without x (join rank x ys) ≡ ys = without-join rank x ys in grind (arith, nat_tests)
+without-join rank x (y ∷ ys) h = let r = without-join rank x ys in grind (arith, nat_tests)
 
 pub has_join : (rank : ℕ → ℕ) (k x : ℕ) (xs : List ℕ) → has k (join rank x xs) ≡ (x == k || has k xs)
 has_join rank k x [] = refl
