@@ -102,6 +102,6 @@ fn told(task: &Task, at: LookedAt) -> u16
     match at {
         LookedAt::Message => task.word,
         LookedAt::Start => task.start,
-        LookedAt::Outcome => task.outcome.number(),
+        LookedAt::Outcome => task.outcome.map_or(0, u16::from),
     }
 }

@@ -1,5 +1,6 @@
 -- All four units: who waits at any of them, and that their queues stay even.
 use Rattle.std.proofs.Common.{◌≡◌, ℕ, zero, suc, ◌<◌, Bool, false, ◌||◌, List, [], ◌∷◌, ◌++◌, map, length, get_or, set, refl, sym, ap, ◌∙◌, arith, length-set}
+use lib.ListN.{length-map}
 use Rattle.std.proofs.Math.Seq.{map-set_same}
 use Rattle.std.proofs.lemmas.Bool.Decides.{nat_tests}
 use Rattle.chain.specs.Lists.{has}
@@ -8,7 +9,9 @@ use Rattle.std.specs.List.{list_any}
 use Rattle.queues.specs.declared.Queue.{Queue}
 use Rattle.queues.specs.declared.number.UnitNumber.{UnitNumber}
 use Rattle.queues.specs.declared.number.UnitNumber.TheVariants.{Unit0, Unit1, Unit2, Unit3}
+use Rattle.queues.specs.declared.four.Queues.{Queues}
 use Rattle.queues.specs.Even.{Even, rooms}
+use Rattle.queues.specs.Four.{queues}
 use Rattle.queues.specs.Number.{number_of}
 use Rattle.queues.specs.View.{requests, room}
 
@@ -35,6 +38,10 @@ low Unit0 = omega arith
 low Unit1 = omega arith
 low Unit2 = omega arith
 low Unit3 = omega arith
+
+-- so each unit has its queue
+pub has_queue : (x : Queues) (unit : UnitNumber) → number_of unit < length (queues x)
+has_queue x unit = let l = low unit in let n = length-map x.at requests in let four = x.even.four in omega arith
 
 -- a queue that is put in the place of one with as much room leaves all even
 pub even_still : (at : List Queue) (i : ℕ) (was is : Queue) → room is ≡ room (get_or at i was) → Even at → Even (set at i is)

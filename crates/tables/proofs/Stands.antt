@@ -16,6 +16,7 @@ use Rattle.tasks.specs.View.{table}
 use Rattle.clock.specs.View as clock
 use Rattle.cells.specs.View as cells
 use Rattle.queues.specs.Four as queues
+use Rattle.queues.proofs.Everywhere.{has_queue}
 use Rattle.queues.specs.Number.{number_of}
 use Rattle.queues.specs.declared.number.UnitNumber.{UnitNumber}
 use Rattle.queues.specs.declared.number.UnitNumber.TheVariants.{Unit0, Unit1, Unit2, Unit3}
@@ -156,13 +157,6 @@ pub record First (k : Tables) (unit : UnitNumber) (r : Request) : Type 0 where
   pub nowhere : in_table r.task (table k.tasks) ≡ 0
   pub fit : fits (record_in (table k.tasks) r.task) r ≡ true
 
--- there are four units
-pub low : (unit : UnitNumber) → number_of unit < 4
-low Unit0 = omega arith
-low Unit1 = omega arith
-low Unit2 = omega arith
-low Unit3 = omega arith
-
 starts_with : (r : Request) (q : List Request) → Some r ≡ first q → q ≡ r ∷ rest q
 starts_with r [] e = let z : ◌≡◌ {A = ℕ} 0 1 = cc in absurd (omega arith)
 starts_with r (x ∷ xs) e = let z : x ≡ r = cc in ap (λ (i : Request). i ∷ xs) z
@@ -172,7 +166,7 @@ first_request k unit r e =
     let q = queues.queue_at unit k.queues in
     let s : q ≡ r ∷ rest q = starts_with r q e in
     let o = one_place k r.task in
-    let c = count-one_queue r.task (queues.queues k.queues) (number_of unit) (low unit) in
+    let c = count-one_queue r.task (queues.queues k.queues) (number_of unit) (has_queue k.queues unit) in
     let z : count r.task (askers q) ≡ one r.task r.task + count r.task (askers (rest q)) = ap (λ (i : List Request). count r.task (askers i)) s in
     let w = one_same r.task in
     record {

@@ -99,7 +99,7 @@ fn bytes_read(task: &Task) -> &[u8]
     ensures { result.now ≡ bytes_read (as_task task.now).kind (as_task task.now).bytes }
 {
     match task.kind {
-        Some(TransferKind::Read | TransferKind::ReadLine) => &task.bytes[0..task.size],
+        Some(TransferKind::Read | TransferKind::ReadLine) => task.bytes.as_slice(),
         Some(TransferKind::Write | TransferKind::WriteLine) | None => &[],
     }
 }

@@ -29,8 +29,13 @@ use Rattle.moving.specs.Moved as moved
 use Rattle.tables.specs.Parts.{state_of}
 use Rattle.tables.specs.View.{state}
 use Rattle.transfers.proofs.Requested.{Is, is}
-use Rattle.moving.proofs.Services.{Moves}
-use Rattle.tables.proofs.Stands.{low}
+use Rattle.queues.proofs.Everywhere.{low}
+
+-- what the code makes of a move: the unit, the record, and the outcome if the transfer has ended
+pub record Moves (m' : Medium) (y : Task) (outcome : Option Outcome) (v : Move) (x : Task) : Type 0 where
+  pub medium : m' ≡ v.unit
+  pub task : y ≡ moved.changed v x
+  pub ends : outcome ≡ v.ends
 
 -- Ends ------------------------------------------------------------------------------------------------------------------------
 
@@ -68,8 +73,8 @@ module _ (k : Tables) (unit : UnitNumber) (m : Medium) (us : List Medium) (four 
   serves : apply (Service (number_of unit)) (over m) ≡ serving (number_of unit) (queue_at unit k.queues) (over m)
   serves = let l = low unit in cond-false (ltb 3 (number_of unit)) (refuse NoSuchUnit (over m)) (serving (number_of unit) (queue_at unit k.queues) (over m)) (grind (arith, nat_tests))
 
-  module _ (r : Request) (x y : Task) (m' : Medium) (last : Bool) (b : Table) (tasks : Tasks) (requests : Queues)
-      (starts : queue_at unit k.queues ≡ r ∷ rest (queue_at unit k.queues)) (at : x ≡ record_in (table k.tasks) r.task) (h : Moves m' y last (move_for x r m) x) (to : b ≡ change r.task (λ _. y) (table k.tasks)) where
+  module _ (r : Request) (x y : Task) (m' : Medium) (ends : Option Outcome) (b : Table) (tasks : Tasks) (requests : Queues)
+      (starts : queue_at unit k.queues ≡ r ∷ rest (queue_at unit k.queues)) (at : x ≡ record_in (table k.tasks) r.task) (h : Moves m' y ends (move_for x r m) x) (to : b ≡ change r.task (λ _. y) (table k.tasks)) where
     abbrev u : ℕ
     u = number_of unit
 
@@ -88,10 +93,10 @@ module _ (k : Tables) (unit : UnitNumber) (m : Medium) (us : List Medium) (four 
     units_are : set us u m' ≡ set (set us u m) u v.unit
     units_are = ap (set us u) h.medium ∙ sym (set-set us u m v.unit)
 
-    pub went_on : last ≡ false → table tasks ≡ b → queues requests ≡ set (queues k.queues) u (advanced (queue_at unit k.queues))
+    pub went_on : is_some ends ≡ false → table tasks ≡ b → queues requests ≡ set (queues k.queues) u (advanced (queue_at unit k.queues))
         → Is (state_of (set us u m') tasks k.waits k.cells requests k.clock) (Ok 0) (apply (Service u) (over m))
     went_on l t q =
-        let n : v.ends ≡ None = none_of v.ends (sym l ∙ h.ends) in
+        let n : v.ends ≡ None = sym h.ends ∙ none_of ends (sym l) in
         let p : y ≡ with_bytes v.bytes (record_in (table k.tasks) r.task) = h.task ∙ ap (λ (o : Option Outcome). moved.ending v.bytes o x) n ∙ ap (with_bytes v.bytes) at in
         let a : table tasks ≡ change r.task (with_bytes v.bytes) (table k.tasks) = t ∙ to ∙ change_as r.task (with_bytes v.bytes) y (table k.tasks) p in
         let c : queues requests ≡ set (queues k.queues) u ((record { task = r.task; size = r.size; moved = v.moved }) ∷ rs) =
@@ -100,10 +105,10 @@ module _ (k : Tables) (unit : UnitNumber) (m : Medium) (us : List Medium) (four 
         is (state_of (set us u m') tasks k.waits k.cells requests k.clock) (Ok 0) (apply (Service u) (over m)) (going_on u r rs v (over m))
         (by_move ∙ ap (λ (o : Option Outcome). moving u r rs v o (over m)) n) (cc) refl
 
-    pub was_last : last ≡ true → table tasks ≡ turn (release r.task b) → queues requests ≡ set (queues k.queues) u rs
+    pub was_last : is_some ends ≡ true → table tasks ≡ turn (release r.task b) → queues requests ≡ set (queues k.queues) u rs
         → Is (state_of (set us u m') tasks k.waits k.cells requests k.clock) (Ok 1) (apply (Service u) (over m))
     was_last l t q =
-        let some = some_of v.ends (sym l ∙ h.ends) in
+        let some = some_of v.ends (sym l ∙ ap is_some h.ends) in
         let o = some.0 in
         let p : y ≡ with_outcome v.bytes o (record_in (table k.tasks) r.task) = h.task ∙ ap (λ (i : Option Outcome). moved.ending v.bytes i x) some.1 ∙ ap (with_outcome v.bytes o) at in
         let a : table tasks ≡ turn (release r.task (change r.task (with_outcome v.bytes o) (table k.tasks))) =

@@ -14,7 +14,7 @@ pub fn transfer(tables: &mut Tables, unit: u8, transfer: Transfer<&[u8]>) -> Res
     ensures { Does (Transfers unit (transfer_with (λ t. t.now) transfer.entry)) tables.old tables.new result }
 {
     let caller = tables.caller()?;
-    let at = UnitNumber::of(unit)?;
+    let at = UnitNumber::try_from(unit)?;
     let asked = asked(transfer)?;
     tables.queues.join(at, caller, asked.size);
     tables.tasks.stop();

@@ -29,13 +29,11 @@ fn finish(tasks: &mut Tasks, t: usize)
 pub fn serve<U: Unit>(tables: &mut Tables, unit: UnitNumber, device: &mut U) -> Result<u16, Refusal>
     ensures { Serves (number_of unit) (U.Unit.medium device.old) (U.Unit.medium device.new) tables.old tables.new result }
 {
-    let Some(first) = tables.queues.first(unit) else {
-        return Err(Refusal::NoRequest);
-    };
-    let task = *tables.tasks.task(first.task);
-    let moved = one_move(device, task, first);
-    tables.tasks.replace(first.task, moved.task);
-    if moved.ends {
+    let first = tables.queues.first(unit).ok_or(Refusal::NoRequest)?;
+    let mut task = *tables.tasks.task(first.task);
+    let outcome = one_move(device, &mut task, first);
+    tables.tasks.replace(first.task, task);
+    if outcome.is_some() {
         tables.queues.pop(unit);
         finish(&mut tables.tasks, first.task);
         return Ok(1);

@@ -1,6 +1,7 @@
 -- The first request is one that its task can have; what the move makes of it is what the rules make of it.
-use Rattle.std.proofs.Common.{◌≡◌, true, List, length, set, length-set, Ok, sym, refl, subst, arith}
+use Rattle.std.proofs.Common.{◌≡◌, true, List, length, set, length-set, Ok, sym, refl, ap, ◌∙◌, subst, arith}
 use Rattle.std.proofs.lemmas.Bool.Decides.{nat_tests}
+use Rattle.std.specs.Option.{option_map}
 use Rattle.calls.specs.declared.call.Call.TheVariants.{Service}
 use Rattle.queues.specs.Number.{number_of}
 use Rattle.queues.specs.View.{as_request}
@@ -14,61 +15,60 @@ use Rattle.moving.specs.Moved.{move_for}
 use Rattle.tables.specs.Parts.{blanks, state_of}
 use Rattle.tables.specs.View.{state}
 use Rattle.transfers.proofs.Requested.{Is}
-use Rattle.moving.proofs.Services.{Moves}
-use Rattle.transfers.proofs.Served.{went_on, was_last}
+use Rattle.transfers.proofs.Served.{Moves, went_on, was_last}
 use Rattle.tables.proofs.Stands.{First, first_request, kept-over, put}
 use Rattle.transfers.proofs.service.serve.Given as given
 use Rattle.transfers.proofs.service.serve.Goals as goal
-use Rattle.transfers.proofs.service.serve.Goals.{In-Some, After-replace, After-advance, After-finish, at-task-task-requires, at-one_move-moved-requires, at-replace-requires, at-finish-requires, at-invariant_of-tables, at-invariant_of-tables-2, at-returns, at-returns-then-moved}
+use Rattle.transfers.proofs.service.serve.Goals.{In_ok-first, After-replace, After-advance, After-finish, at-task-requires, at-one_move-outcome-requires, at-replace-requires, at-finish-requires, at-invariant_of-tables, at-invariant_of-tables-2, at-returns, at-returns-then-is_some}
 
 -- the first request
-found : (g : given.Over) (c : In-Some g) → First c.args.tables.now c.args.unit (as_request c.in-Some.first)
-found g c = first_request c.args.tables.now c.args.unit (as_request c.in-Some.first) c.in-Some.ensures
+found : (g : given.Over) (c : In_ok-first g) → First c.args.tables.now c.args.unit (as_request c.in_ok-first.first)
+found g c = first_request c.args.tables.now c.args.unit (as_request c.in_ok-first.first) (ap (option_map as_request) (sym c.in_ok-first.ensures.ok_part) ∙ c.first.ensures)
 
-pub task-task-requires : goal.task-task-requires
-task-task-requires g c = (found g (at-task-task-requires g c).In-Some).within
+pub task-requires : goal.task-requires
+task-requires g c = (found g (at-task-requires g c).In_ok-first).within
 
-pub one_move-moved-requires : goal.one_move-moved-requires
-one_move-moved-requires g c = subst (λ (x : Task). fits x (as_request c.in-Some.first) ≡ true) (sym c.task-task.ensures) (found g (at-one_move-moved-requires g c).In-Some).fit
+pub one_move-outcome-requires : goal.one_move-outcome-requires
+one_move-outcome-requires g c = subst (λ (x : Task). fits x (as_request c.in_ok-first.first) ≡ true) (sym c.task.ensures) (found g (at-one_move-outcome-requires g c).In_ok-first).fit
 
 pub replace-requires : goal.replace-requires
-replace-requires g c = (found g (at-replace-requires g c).In-Some).within
+replace-requires g c = (found g (at-replace-requires g c).In_ok-first).within
 
 pub advance-requires : goal.advance-requires
 advance-requires g c = λ r e. let f = (first_request c.args.tables.now c.args.unit r (sym e)).fit in grind (arith, nat_tests)
 
 pub finish-requires : goal.finish-requires
 finish-requires g c =
-    let h = put c.args.tables.now c.args.unit (as_request c.in-Some.first) (as_task c.one_move-moved.result.task) (table c.replace.new.self) (found g (at-finish-requires g c).In-Some) c.replace.ensures in
+    let h = put c.args.tables.now c.args.unit (as_request c.in_ok-first.first) (as_task c.one_move-outcome.new.task) (table c.replace.new.self) (found g (at-finish-requires g c).In_ok-first) c.replace.ensures in
     record { within = h.within; nowhere = h.nowhere }
 
 -- what the move came to
-move-is : (g : given.Over) (c : After-replace g) → Moves (g.U.Unit.medium c.one_move-moved.new.device) (as_task c.one_move-moved.result.task) c.one_move-moved.result.ends
-    (move_for (as_task c.task-task.result.now) (as_request c.in-Some.first) (g.U.Unit.medium c.args.device.now)) (as_task c.task-task.result.now)
-move-is g c = record { medium = c.one_move-moved.ensures.medium; task = c.one_move-moved.ensures.task; ends = c.one_move-moved.ensures.ends }
+move-is : (g : given.Over) (c : After-replace g) → Moves (g.U.Unit.medium c.one_move-outcome.new.device) (as_task c.one_move-outcome.new.task) c.one_move-outcome.result
+    (move_for (as_task c.task.result.now) (as_request c.in_ok-first.first) (g.U.Unit.medium c.args.device.now)) (as_task c.task.result.now)
+move-is g c = record { medium = c.one_move-outcome.ensures.medium; task = c.one_move-outcome.ensures.task; ends = c.one_move-outcome.ensures.ends }
 
 -- the transfer goes on, as the rules see it
 on : (g : given.Over) (c : After-advance g) (us : List Medium) → length us ≡ 4
-    → Is (state_of (set us (number_of c.args.unit) (g.U.Unit.medium c.one_move-moved.new.device)) c.replace.new.self c.args.tables.now.waits c.args.tables.now.cells c.advance.new.self c.args.tables.now.clock)
+    → Is (state_of (set us (number_of c.args.unit) (g.U.Unit.medium c.one_move-outcome.new.device)) c.replace.new.self c.args.tables.now.waits c.args.tables.now.cells c.advance.new.self c.args.tables.now.clock)
     (Ok 0) (apply (Service (number_of c.args.unit)) (state (set us (number_of c.args.unit) (g.U.Unit.medium c.args.device.now)) c.args.tables.now))
 on g c us four =
     went_on c.args.tables.now c.args.unit (g.U.Unit.medium c.args.device.now) us four
-    (as_request c.in-Some.first) (as_task c.task-task.result.now) (as_task c.one_move-moved.result.task) (g.U.Unit.medium c.one_move-moved.new.device) c.one_move-moved.result.ends
-    (table c.replace.new.self) c.replace.new.self c.advance.new.self (found g (at-invariant_of-tables-2 g c).In-Some).starts c.task-task.ensures (move-is g (at-invariant_of-tables-2 g c).After-replace) c.replace.ensures
-    c.if-moved.false refl c.advance.ensures.queues
+    (as_request c.in_ok-first.first) (as_task c.task.result.now) (as_task c.one_move-outcome.new.task) (g.U.Unit.medium c.one_move-outcome.new.device) c.one_move-outcome.result
+    (table c.replace.new.self) c.replace.new.self c.advance.new.self (found g (at-invariant_of-tables-2 g c).In_ok-first).starts c.task.ensures (move-is g (at-invariant_of-tables-2 g c).After-replace) c.replace.ensures
+    (sym c.is_some.ensures ∙ c.if-is_some.false) refl c.advance.ensures.queues
 
 -- the transfer ends
 last : (g : given.Over) (c : After-finish g) (us : List Medium) → length us ≡ 4
-    → Is (state_of (set us (number_of c.args.unit) (g.U.Unit.medium c.one_move-moved.new.device)) c.finish.new.tasks c.args.tables.now.waits c.args.tables.now.cells c.pop.new.self c.args.tables.now.clock)
+    → Is (state_of (set us (number_of c.args.unit) (g.U.Unit.medium c.one_move-outcome.new.device)) c.finish.new.tasks c.args.tables.now.waits c.args.tables.now.cells c.pop.new.self c.args.tables.now.clock)
     (Ok 1) (apply (Service (number_of c.args.unit)) (state (set us (number_of c.args.unit) (g.U.Unit.medium c.args.device.now)) c.args.tables.now))
 last g c us four =
     was_last c.args.tables.now c.args.unit (g.U.Unit.medium c.args.device.now) us four
-    (as_request c.in-Some.first) (as_task c.task-task.result.now) (as_task c.one_move-moved.result.task) (g.U.Unit.medium c.one_move-moved.new.device) c.one_move-moved.result.ends
-    (table c.replace.new.self) c.finish.new.tasks c.pop.new.self (found g (at-invariant_of-tables g c).In-Some).starts c.task-task.ensures (move-is g (at-invariant_of-tables g c).After-replace) c.replace.ensures
-    c.if-moved.true c.finish.ensures c.pop.ensures.queues
+    (as_request c.in_ok-first.first) (as_task c.task.result.now) (as_task c.one_move-outcome.new.task) (g.U.Unit.medium c.one_move-outcome.new.device) c.one_move-outcome.result
+    (table c.replace.new.self) c.finish.new.tasks c.pop.new.self (found g (at-invariant_of-tables g c).In_ok-first).starts c.task.ensures (move-is g (at-invariant_of-tables g c).After-replace) c.replace.ensures
+    (sym c.is_some.ensures ∙ c.if-is_some.true) c.finish.ensures c.pop.ensures.queues
 
-pub returns-then-moved : goal.returns-then-moved
-returns-then-moved g c = record { state = λ us four. (last g (at-returns-then-moved g c).After-finish us four).state; answer = λ us four. (last g (at-returns-then-moved g c).After-finish us four).answer; room = (refl, refl, c.pop.ensures.room) }
+pub returns-then-is_some : goal.returns-then-is_some
+returns-then-is_some g c = record { state = λ us four. (last g (at-returns-then-is_some g c).After-finish us four).state; answer = λ us four. (last g (at-returns-then-is_some g c).After-finish us four).answer; room = (refl, refl, c.pop.ensures.room) }
 
 pub returns : goal.returns
 returns g c = record { state = λ us four. (on g (at-returns g c).After-advance us four).state; answer = λ us four. (on g (at-returns g c).After-advance us four).answer; room = (refl, refl, c.advance.ensures.room) }
