@@ -60,7 +60,4 @@ rate_after (Err refusal) before = before
 -- whether there is a clock
 abbrev pub ticks : ClockRate → Bool
 ticks NoClock = false
-ticks Ten = true
-ticks Hundred = true
-ticks Thousand = true
-ticks Mains = true
+ticks rate = true

@@ -4,8 +4,11 @@ ghost use Rattle.generation.specs.Answers.{draft_rate, draft_tasks, lawful_tasks
 ghost use Rattle.generation.specs.declared.ClockRate.TheVariants.{Ten};
 ghost use Rattle.std.specs.Prelude.{◌≡◌};
 
-use crate::{ClockRate, Draft, MOST_TASKS, Sealed};
+use crate::{ClockRate, Draft, Sealed};
 use calls::Refusal;
+
+// The most tasks that a generation can have.
+const MOST_TASKS: u8 = 64;
 
 impl ClockRate {
     // Whether there is a clock.

@@ -2,13 +2,9 @@
 // and which a monitor starts from.
 #![tactic(auto)]
 
-ghost use Rattle.generation.specs.declared.TheConstants.{MOST_TASKS};
 ghost use Rattle.std.specs.Prelude.{◌≤◌};
 
 mod answers;
-
-// The most tasks that a generation can have.
-pub const MOST_TASKS: u8 = 64;
 
 // How often the clock ticks.
 #[derive(Clone, Copy, PartialEq, Eq, Debug)]
@@ -31,7 +27,7 @@ pub struct Draft {
     tasks: u8,
     rate: ClockRate,
     ghost some: { 1 ≤ tasks },
-    ghost few: { tasks ≤ MOST_TASKS },
+    ghost few: { tasks ≤ 64 },
 }
 
 // A generation that takes no more answers.
@@ -40,5 +36,5 @@ pub struct Sealed {
     task_count: u8,
     clock_rate: ClockRate,
     ghost some: { 1 ≤ task_count },
-    ghost few: { task_count ≤ MOST_TASKS },
+    ghost few: { task_count ≤ 64 },
 }
