@@ -21,7 +21,9 @@ const NO_RECORD: u8 = 255;
 fn starts_data(bytes: &[u8]) -> bool
     ensures { result ≡ starts_data bytes.now }
 {
-    bytes.first().is_some_and(|first| *first < 16)
+    bytes
+        .first()
+        .is_some_and(|first| *first / 16 == u8::from(Kind::Data))
 }
 
 // The reply that a word is.
