@@ -18,8 +18,7 @@ transfer_with f moves.ReadLine = moves.ReadLine
 abbrev pub transfer_text : {X : Type 0} → transfer.Transfer X → Option X
 transfer_text (moves.Write text) = Some text
 transfer_text (moves.WriteLine text) = Some text
-transfer_text (moves.Read size) = None
-transfer_text moves.ReadLine = None
+transfer_text t = None
 
 -- which transfer it is
 abbrev pub kind_of : {X : Type 0} → transfer.Transfer X → TransferKind
@@ -45,18 +44,8 @@ call_with f (Service unit) = Service unit
 
 -- the text of a call, if it is a write
 abbrev pub call_text : {X : Type 0} → Call X → Option X
-call_text (Create id level start message) = None
-call_text Kill = None
-call_text Suspend = None
-call_text (SetLevel level) = None
-call_text (ById id call) = None
-call_text (Send cell message stay) = None
-call_text (Wait cell) = None
-call_text (Delay ticks) = None
 call_text (Transfer unit t) = transfer_text t
-call_text (Look at) = None
-call_text Tick = None
-call_text (Service unit) = None
+call_text c = None
 
 -- a call or a transfer, of this text, is made into the same with a text that can come of its own; with none, it is the
 -- same whatever is made of a text

@@ -95,7 +95,7 @@ impl<T: Drop> Transfer<T> {
     {
         match self {
             Transfer::Write { text } | Transfer::WriteLine { text } => Some(text),
-            Transfer::Read { length: _ } | Transfer::ReadLine => None,
+            Transfer::Read { .. } | Transfer::ReadLine => None,
         }
     }
 
@@ -123,9 +123,9 @@ impl<T: Drop> Transfer<T> {
         ensures { result ≡ kind_of self.now }
     {
         match self {
-            Transfer::Write { text: _ } => TransferKind::Write,
-            Transfer::WriteLine { text: _ } => TransferKind::WriteLine,
-            Transfer::Read { length: _ } => TransferKind::Read,
+            Transfer::Write { .. } => TransferKind::Write,
+            Transfer::WriteLine { .. } => TransferKind::WriteLine,
+            Transfer::Read { .. } => TransferKind::Read,
             Transfer::ReadLine => TransferKind::ReadLine,
         }
     }
@@ -137,7 +137,7 @@ impl<T: Drop> Call<T> {
         ensures { option_copied result ≡ call_text self.now }
     {
         match self {
-            Call::Transfer { unit: _, transfer } => transfer.text(),
+            Call::Transfer { transfer, .. } => transfer.text(),
             _ => None,
         }
     }

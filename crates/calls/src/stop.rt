@@ -22,7 +22,7 @@ impl Stop {
     {
         match self {
             Stop::End => 0,
-            Stop::Unlawful { place: _ } => u8::from(Refusal::Unlawful),
+            Stop::Unlawful { .. } => u8::from(Refusal::Unlawful),
             Stop::NoRoom => u8::from(Refusal::NoRoom),
         }
     }

@@ -12,7 +12,7 @@ pub const LONGEST_FILE: usize = 65_536;
 
 // The first bytes of a file in the current folder; what cannot be read is told on standard error.
 pub fn read_front(rt: &(impl Files + Eprint + AllocGlobal), name: &str) -> io::Result<Vec<u8>>
-    ensures { IfOk result (λ bytes. vec_len bytes ≤ LONGEST_FILE) }
+    ensures { IfOk result (λ bytes. vec_len bytes ≤ 65536) }
 {
     let bytes = front(rt, name);
     if let Err(error) = &bytes {
@@ -22,7 +22,7 @@ pub fn read_front(rt: &(impl Files + Eprint + AllocGlobal), name: &str) -> io::R
 }
 
 fn front(rt: &(impl Files + AllocGlobal), name: &str) -> io::Result<Vec<u8>>
-    ensures { IfOk result (λ bytes. vec_len bytes ≤ LONGEST_FILE) }
+    ensures { IfOk result (λ bytes. vec_len bytes ≤ 65536) }
 {
     let file = fs::open(rt, name)?;
     let mut bytes = Vec::new(rt.alloc());

@@ -9,16 +9,16 @@ use Rattle.generation.specs.declared.Sealed.{Sealed}
 
 -- the answers in force
 abbrev pub draft_tasks : Draft → ℕ
-draft_tasks d = d.tasks
+draft_tasks d = d.answers.tasks
 
 abbrev pub draft_rate : Draft → ClockRate
-draft_rate d = d.rate
+draft_rate d = d.answers.rate
 
 abbrev pub sealed_tasks : Sealed → ℕ
-sealed_tasks g = g.task_count
+sealed_tasks g = g.kept.tasks
 
 abbrev pub sealed_rate : Sealed → ClockRate
-sealed_rate g = g.clock_rate
+sealed_rate g = g.kept.rate
 
 -- there are 1 to 64 tasks
 abbrev pub lawful_tasks : ℕ → Bool
@@ -60,7 +60,4 @@ rate_after (Err refusal) before = before
 -- whether there is a clock
 abbrev pub ticks : ClockRate → Bool
 ticks NoClock = false
-ticks Ten = true
-ticks Hundred = true
-ticks Thousand = true
-ticks Mains = true
+ticks rate = true

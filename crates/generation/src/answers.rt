@@ -4,8 +4,11 @@ ghost use Rattle.generation.specs.Answers.{draft_rate, draft_tasks, lawful_tasks
 ghost use Rattle.generation.specs.declared.ClockRate.TheVariants.{Ten};
 ghost use Rattle.std.specs.Prelude.{◌≡◌};
 
-use crate::{ClockRate, Draft, MOST_TASKS, Sealed};
+use crate::{Answered, ClockRate, Draft, Sealed};
 use calls::Refusal;
+
+// The most tasks that a generation can have.
+const MOST_TASKS: u8 = 64;
 
 impl ClockRate {
     // Whether there is a clock.
@@ -50,8 +53,10 @@ impl Draft {
         ensures rate { draft_rate result ≡ Ten }
     {
         Draft {
-            tasks: 1,
-            rate: ClockRate::Ten,
+            answers: Answered {
+                tasks: 1,
+                rate: ClockRate::Ten,
+            },
         }
     }
 
@@ -64,7 +69,7 @@ impl Draft {
         if !(1..=MOST_TASKS).contains(&tasks) {
             return Err(Refusal::OutOfRange);
         }
-        self.tasks = tasks;
+        self.answers.tasks = tasks;
         Ok(())
     }
 
@@ -74,7 +79,7 @@ impl Draft {
         ensures rate { draft_rate self.new ≡ rate_after (rate_of number) (draft_rate self.old) }
         ensures tasks { draft_tasks self.new ≡ draft_tasks self.old }
     {
-        self.rate = ClockRate::try_from(number)?;
+        self.answers.rate = ClockRate::try_from(number)?;
         Ok(())
     }
 
@@ -82,11 +87,7 @@ impl Draft {
         ensures tasks { sealed_tasks result ≡ draft_tasks self }
         ensures rate { sealed_rate result ≡ draft_rate self }
     {
-        let Draft { tasks, rate } = self;
-        Sealed {
-            task_count: tasks,
-            clock_rate: rate,
-        }
+        Sealed { kept: self.answers }
     }
 }
 
@@ -94,12 +95,12 @@ impl Sealed {
     pub fn tasks(&self) -> u8
         ensures { result ≡ sealed_tasks self.now }
     {
-        self.task_count
+        self.kept.tasks
     }
 
     pub fn rate(&self) -> ClockRate
         ensures { result ≡ sealed_rate self.now }
     {
-        self.clock_rate
+        self.kept.rate
     }
 }

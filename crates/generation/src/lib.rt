@@ -2,13 +2,9 @@
 // and which a monitor starts from.
 #![tactic(auto)]
 
-ghost use Rattle.generation.specs.declared.TheConstants.{MOST_TASKS};
 ghost use Rattle.std.specs.Prelude.{◌≤◌};
 
 mod answers;
-
-// The most tasks that a generation can have.
-pub const MOST_TASKS: u8 = 64;
 
 // How often the clock ticks.
 #[derive(Clone, Copy, PartialEq, Eq, Debug)]
@@ -25,20 +21,23 @@ pub enum ClockRate {
     Mains = 4,
 }
 
-// What has been answered so far.
-#[derive(Drop)]
-pub struct Draft {
+// The answers: how many tasks there are, and how often the clock ticks.
+#[derive(Clone, Copy)]
+struct Answered {
     tasks: u8,
     rate: ClockRate,
     ghost some: { 1 ≤ tasks },
-    ghost few: { tasks ≤ MOST_TASKS },
+    ghost few: { tasks ≤ 64 },
+}
+
+// What has been answered so far.
+#[derive(Drop)]
+pub struct Draft {
+    answers: Answered,
 }
 
 // A generation that takes no more answers.
 #[derive(Drop)]
 pub struct Sealed {
-    task_count: u8,
-    clock_rate: ClockRate,
-    ghost some: { 1 ≤ task_count },
-    ghost few: { task_count ≤ MOST_TASKS },
+    kept: Answered,
 }

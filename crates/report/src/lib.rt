@@ -26,7 +26,7 @@ fn hex_byte(byte: u8) -> [u8; 2]
     [hex_digit(byte / 16), hex_digit(byte % 16)]
 }
 
-// A word's line: eight capital hexadecimal digits and byte 10.
+// A word's line: eight capital hexadecimal digits and byte 10. It takes no heap, so it cannot fail as `format!` can.
 pub fn word_line(word: u32) -> [u8; 9]
     ensures { result ≡ word_line word }
 {

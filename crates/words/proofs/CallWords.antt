@@ -1,15 +1,15 @@
 -- The words of a call: its first word, and what its data words tell.
-use Rattle.std.proofs.Common.{◌≡◌, ℕ, ◌/◌, ◌%◌, ◌<◌, ◌≤◌, ◌⊎◌, List, [], ◌∷◌, ◌++◌, length, Some, None, Ok, Err, Option, sym, refl, ap, ◌∙◌, inl, inr, ⊎_elim, append_assoc, arith, MatchOption}
+use Rattle.std.proofs.Common.{◌≡◌, ℕ, ◌/◌, ◌%◌, ◌<◌, ◌≤◌, ◌⊎◌, List, [], ◌∷◌, ◌++◌, length, Some, None, Ok, Err, sym, refl, ap, ◌∙◌, inl, inr, ⊎_elim, append_assoc, arith}
 use Rattle.calls.specs.Calls.{call_text, call_with, MapsText}
 use Rattle.calls.specs.declared.call.Call.{Call}
-use Rattle.calls.specs.declared.call.Call.TheVariants.{Create, Kill, Suspend, SetLevel, ById, Send, Wait, Delay, Transfer, Look, Tick, Service}
+use Rattle.calls.specs.declared.call.Call.TheVariants.{Create, Transfer}
 use Rattle.calls.specs.declared.call.Transfer.TheVariants as moves
 use Rattle.std.proofs.lemmas.List.{drop_at, length-append, nil_from_length, take_at}
 use Rattle.calls.specs.declared.refusal.Refusal.TheVariants.{NoRoom}
 use Rattle.std.proofs.lemmas.Bool.Decides.{nat_tests}
 use Rattle.words.specs.Format.{call_words, data_word, data_words, first_word, text_words}
-use Rattle.words.specs.Heads.{bare}
-use Rattle.words.specs.Reading.{CreateRead, OneCall, Reading, ReadsCall, Shorter, Writable}
+use Rattle.words.specs.Heads.{bare, word_bytes}
+use Rattle.words.specs.Reading.{OneCall, Reading, ReadsCall, Shorter, Writable}
 use Rattle.words.specs.Text.{text_length}
 use Rattle.words.specs.Writing.{told_call, told_writing, words_size}
 use Rattle.words.proofs.FirstWords.{about_head, same_head}
@@ -46,62 +46,30 @@ pub record Created (c : Call (List ℕ)) : Type 0 where
 
 pub data_of : (c : Call (List ℕ)) → Texted c ⊎ Created c
 data_of (Create id level start message) = inr (record { id = id; level = level; start = start; message = message; is = refl })
-data_of Kill = inl (record { text = []; size = refl; words = refl; whole = refl })
-data_of Suspend = inl (record { text = []; size = refl; words = refl; whole = refl })
-data_of (SetLevel level) = inl (record { text = []; size = refl; words = refl; whole = refl })
-data_of (ById id call) = inl (record { text = []; size = refl; words = refl; whole = refl })
-data_of (Send cell message stay) = inl (record { text = []; size = refl; words = refl; whole = refl })
-data_of (Wait cell) = inl (record { text = []; size = refl; words = refl; whole = refl })
-data_of (Delay ticks) = inl (record { text = []; size = refl; words = refl; whole = refl })
 data_of (Transfer unit (moves.Write text)) = inl (record { text = text; size = refl; words = refl; whole = refl })
 data_of (Transfer unit (moves.WriteLine text)) = inl (record { text = text; size = refl; words = refl; whole = refl })
-data_of (Transfer unit (moves.Read size)) = inl (record { text = []; size = refl; words = refl; whole = refl })
-data_of (Transfer unit moves.ReadLine) = inl (record { text = []; size = refl; words = refl; whole = refl })
-data_of (Look at) = inl (record { text = []; size = refl; words = refl; whole = refl })
-data_of Tick = inl (record { text = []; size = refl; words = refl; whole = refl })
-data_of (Service unit) = inl (record { text = []; size = refl; words = refl; whole = refl })
+data_of c = inl (record { text = []; size = refl; words = refl; whole = refl })
 
 -- a call whose first word is known, with its text put in
 pub filled : (h : Call ℕ) (text : List ℕ) → h ≡ bare h → ((id level start message : ℕ) → h ≡ Create id level start message → ⊥) → length text ≡ text_length h
     → (bare (call_with length (call_with (λ _. text) h)) ≡ h) × (data_words (call_with (λ _. text) h) ≡ text_words text)
 filled (Create id level start message) text b other k = absurd (other id level start message refl)
-filled Kill text b other k = (refl, ap text_words (sym (nil_from_length text k)))
-filled Suspend text b other k = (refl, ap text_words (sym (nil_from_length text k)))
-filled (SetLevel level) text b other k = (refl, ap text_words (sym (nil_from_length text k)))
-filled (ById id call) text b other k = (refl, ap text_words (sym (nil_from_length text k)))
-filled (Send cell message stay) text b other k = (refl, ap text_words (sym (nil_from_length text k)))
-filled (Wait cell) text b other k = (refl, ap text_words (sym (nil_from_length text k)))
-filled (Delay ticks) text b other k = (refl, ap text_words (sym (nil_from_length text k)))
 filled (Transfer unit (moves.Write size)) text b other k = (ap (λ n. Transfer unit (moves.Write n)) k, refl)
 filled (Transfer unit (moves.WriteLine size)) text b other k = (ap (λ n. Transfer unit (moves.WriteLine n)) k, refl)
-filled (Transfer unit (moves.Read size)) text b other k = (refl, ap text_words (sym (nil_from_length text k)))
-filled (Transfer unit moves.ReadLine) text b other k = (refl, ap text_words (sym (nil_from_length text k)))
-filled (Look at) text b other k = (refl, ap text_words (sym (nil_from_length text k)))
-filled Tick text b other k = (refl, ap text_words (sym (nil_from_length text k)))
-filled (Service unit) text b other k = (refl, ap text_words (sym (nil_from_length text k)))
+filled h text b other k = (refl, ap text_words (sym (nil_from_length text k)))
 
 -- one text put in after another way of holding it
 pub with_with : {X Y Z : Type 0} (f : Y → Z) (g : X → Y) (c : Call X) → call_with f (call_with g c) ≡ call_with (λ x. f (g x)) c
 with_with f g (Transfer unit (moves.Write text)) = refl
-with_with f g (Transfer unit (moves.WriteLine text)) = refl
-with_with f g (Transfer unit (moves.Read size)) = refl
-with_with f g (Transfer unit moves.ReadLine) = refl
 with_with f g c = refl
 
 -- what maps a text as f does makes the call with f of its text
 pub mapped : {X Y : Type 0} (f : X → Y) (makes : X → Y → Type 0) (c : Call X) (d : Call Y) → ((x : X) (y : Y) → makes x y → y ≡ f x) → MapsText call_with makes (call_text c) c d → d ≡ call_with f c
 mapped f makes (Transfer unit (moves.Write text)) d h m = let e = h text m.0 m.1 in let k = m.2 in cc
 mapped f makes (Transfer unit (moves.WriteLine text)) d h m = let e = h text m.0 m.1 in let k = m.2 in cc
-mapped f makes (Transfer unit (moves.Read size)) d h m = m f
-mapped f makes (Transfer unit moves.ReadLine) d h m = m f
 mapped f makes c d h m = m f
 
 -- reading ─────────────────────────────────────────────────────────────────────────────────────────────────────────
-
--- what holds of an answer holds of it under other names
-pub weaker : {X : Type 0} (o : Option X) {P P' : Type 0} {Q Q' : X → Type 0} → MatchOption o P Q → (P → P') → ((x : X) → Q x → Q' x) → MatchOption o P' Q'
-weaker None h f g = f h
-weaker (Some x) h f g = g x h
 
 -- texts of one length with the same words are the same
 pub same_text : (s t more rest : List ℕ) → length s ≡ length t → text_words s ++ more ≡ text_words t ++ rest → (s ≡ t) × (more ≡ rest)
@@ -122,21 +90,6 @@ same_text (a ∷ b ∷ c ∷ s) (x ∷ y ∷ z ∷ t) more rest k e =
 -- a number is its two bytes
 pub same_number : (m n : ℕ) → m / 256 ≡ n / 256 → m % 256 ≡ n % 256 → m ≡ n
 same_number m n p q = omega arith
-
--- a create whose first word is known: none is there, or this one
-pub no_create : (head : Call ℕ) (id level s m : ℕ) (bytes : List ℕ) → head ≡ Create id level s m → ((start message : ℕ) (more : List ℕ) → bytes ≡ (data_word start ++ data_word message) ++ more → ⊥)
-    → (c : Call (List ℕ)) (more : List ℕ) → bare (call_with length c) ≡ head → bytes ≡ data_words c ++ more → ⊥
-no_create head id level s m bytes is none c more b e =
-    ⊎_elim
-    (λ (t : Texted c). let whole = t.whole in let f : c ≡ Create id level s m = whole ∙ ap (call_with (λ _. t.text)) (b ∙ is) in none s m more (e ∙ ap (λ d. data_words d ++ more) f))
-    (λ (t : Created c). none t.start t.message more (e ∙ ap (λ d. data_words d ++ more) t.is))
-    (data_of c)
-
-pub this_create : {T : Type 0} (f : T → List ℕ) (head : Call ℕ) (id level s m : ℕ) (bytes : List ℕ) (call : Call T) (rest : List ℕ) → head ≡ Create id level s m → head ≡ bare head → CreateRead id level bytes call rest
-    → (bare (call_with length (call_with f call)) ≡ head) × (bytes ≡ data_words (call_with f call) ++ rest)
-this_create f head id level s m bytes call rest is b r =
-    let c : call_with f call ≡ Create id level r.start r.message = ap (call_with f) r.is in
-    (ap (λ d. bare (call_with length d)) c ∙ sym (b ∙ ap bare is), r.words ∙ sym (ap (λ d. data_words d ++ rest) c))
 
 -- a call with a text whose first word is known: none is there, or this one
 pub no_text : (head : Call ℕ) (bytes : List ℕ) → ((id level start message : ℕ) → head ≡ Create id level start message → ⊥) → ((t more : List ℕ) → length t ≡ text_length head → bytes ≡ text_words t ++ more → ⊥)
@@ -163,6 +116,14 @@ too_short bytes s c more e =
     let m = length-append (call_words c) more in
     let n = length-append (first_word (call_with length c)) (data_words c) in
     omega arith
+
+-- a call whose first word is known is not there if its data words are not
+pub no_call : (bytes rest : List ℕ) (w : ℕ) (head : Call ℕ) → bytes ≡ word_bytes w ++ rest → first_word head ≡ word_bytes w → head ≡ bare head
+    → ((c : Call (List ℕ)) (more : List ℕ) → bare (call_with length c) ≡ head → rest ≡ data_words c ++ more → ⊥)
+    → (c : Call (List ℕ)) (more : List ℕ) → bytes ≡ call_words c ++ more → ⊥
+no_call bytes rest w head b h bare-is none c more e =
+    let s = begins c more (word_bytes w) rest refl (sym e ∙ b) in
+    none c more (same_head (call_with length c) head (s.0 ∙ sym h) ∙ sym bare-is) (sym s.1)
 
 -- the words of a call are read as that call
 created_too : (c : Call (List ℕ)) (id level : ℕ) → bare (call_with length c) ≡ Create id level 0 0 → (start : ℕ) × (message : ℕ) × (c ≡ Create id level start message)
@@ -225,21 +186,9 @@ one_call c rest (Ok (Some (d, more))) r =
 
 -- how many bytes a call takes, by its first word
 pub words_size_lem : (c : Call (List ℕ)) → words_size (call_with length c) ≡ length (call_words c)
-words_size_lem (Create id level start message) = refl
-words_size_lem Kill = refl
-words_size_lem Suspend = refl
-words_size_lem (SetLevel level) = refl
-words_size_lem (ById id call) = refl
-words_size_lem (Send cell message stay) = refl
-words_size_lem (Wait cell) = refl
-words_size_lem (Delay ticks) = refl
-words_size_lem (Look at) = refl
-words_size_lem Tick = refl
-words_size_lem (Service unit) = refl
 words_size_lem (Transfer unit (moves.Write text)) = let n = length-text text in omega arith
 words_size_lem (Transfer unit (moves.WriteLine text)) = let n = length-text text in omega arith
-words_size_lem (Transfer unit (moves.Read size)) = refl
-words_size_lem (Transfer unit moves.ReadLine) = refl
+words_size_lem c = refl
 
 -- what is told where there is no room, and where there is
 pub told-full : (words out : List ℕ) (n : ℕ) → n ≡ length words → length out < n → told_writing words out ≡ Err NoRoom

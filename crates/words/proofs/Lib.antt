@@ -1,5 +1,4 @@
 -- Lemmas that several proofs share.
-pub mod Words
 pub mod FirstWords
 pub mod Texts
 pub mod CallWords

@@ -1,6 +1,6 @@
 -- The word format: the words of each call and of each answer, as bytes.
 -- A word is 32 bits, stored as four bytes, the highest first.
-use Rattle.std.specs.Prelude.{ℕ, ◌+◌, ◌*◌, ◌/◌, ◌%◌, cond, List, [], ◌∷◌, ◌++◌, length}
+use Rattle.std.specs.Prelude.{ℕ, ◌+◌, ◌*◌, ◌/◌, ◌%◌, if◌then◌else◌, List, [], ◌∷◌, ◌++◌, length}
 use Rattle.calls.specs.Calls.{call_with}
 use Rattle.calls.specs.declared.call.ByIdCall.{ByIdCall}
 use Rattle.calls.specs.declared.call.ByIdCall.TheVariants as order
@@ -39,11 +39,8 @@ by_id_sub (order.SetLevel level) = 3
 by_id_sub order.Status = 4
 
 abbrev pub by_id_level : ByIdCall → ℕ
-by_id_level order.Kill = 0
-by_id_level order.Ready = 0
-by_id_level order.Suspend = 0
 by_id_level (order.SetLevel level) = level
-by_id_level order.Status = 0
+by_id_level call = 0
 
 -- the sub-kind of each look
 abbrev pub look_sub : LookedAt → ℕ
@@ -65,7 +62,7 @@ first_word Kill = word 2 0 0 0 0
 first_word Suspend = word 2 1 0 0 0
 first_word (SetLevel level) = word 2 2 0 0 level
 first_word (ById id call) = word 3 (by_id_sub call) 0 id (by_id_level call)
-first_word (Send cell message stay) = word_with 5 (cond stay 1 0) cell message
+first_word (Send cell message stay) = word_with 5 (if stay then 1 else 0) cell message
 first_word (Wait cell) = word 6 0 cell 0 0
 first_word (Delay ticks) = word_with 7 0 0 ticks
 first_word (Transfer unit t) = transfer_word unit t
@@ -82,40 +79,20 @@ transfer_length moves.ReadLine = 0
 
 -- the length of a call's text or read, if it has one; a word has place for 255
 abbrev pub length_in : Call ℕ → ℕ
-length_in (Create id level start message) = 0
-length_in Kill = 0
-length_in Suspend = 0
-length_in (SetLevel level) = 0
-length_in (ById id call) = 0
-length_in (Send cell message stay) = 0
-length_in (Wait cell) = 0
-length_in (Delay ticks) = 0
 length_in (Transfer unit t) = transfer_length t
-length_in (Service unit) = 0
-length_in Tick = 0
-length_in (Look at) = 0
+length_in c = 0
 
 -- the data words of a transfer: its text
 abbrev pub transfer_data : transfer.Transfer (List ℕ) → List ℕ
 transfer_data (moves.Write text) = text_words text
 transfer_data (moves.WriteLine text) = text_words text
-transfer_data (moves.Read size) = []
-transfer_data moves.ReadLine = []
+transfer_data t = []
 
 -- the data words that follow the first word of a call
 abbrev pub data_words : Call (List ℕ) → List ℕ
 data_words (Create id level start message) = data_word start ++ data_word message
-data_words Kill = []
-data_words Suspend = []
-data_words (SetLevel level) = []
-data_words (ById id call) = []
-data_words (Send cell message stay) = []
-data_words (Wait cell) = []
-data_words (Delay ticks) = []
 data_words (Transfer unit t) = transfer_data t
-data_words (Service unit) = []
-data_words Tick = []
-data_words (Look at) = []
+data_words c = []
 
 -- the words of a call
 abbrev pub call_words : Call (List ℕ) → List ℕ

@@ -1,5 +1,5 @@
 -- First words: the bytes of a word as a number, and what a first word can tell of its call.
-use Rattle.std.specs.Prelude.{ℕ, ◌+◌, ◌*◌, ◌/◌, ◌%◌, cond, List, [], ◌∷◌, Some, None, Option, ◌==◌}
+use Rattle.std.specs.Prelude.{ℕ, ◌+◌, ◌*◌, ◌/◌, ◌%◌, if◌then◌else◌, List, [], ◌∷◌, Some, None, Option, ◌==◌}
 use Rattle.calls.specs.declared.call.ByIdCall.TheVariants as order
 use Rattle.calls.specs.declared.call.Call.{Call}
 use Rattle.calls.specs.declared.call.Call.TheVariants.{Create, Kill, Suspend, SetLevel, ById, Send, Wait, Delay, Transfer, Look, Tick, Service}
@@ -16,17 +16,7 @@ word_bytes w = (w / 16777216) ∷ (w / 65536 % 256) ∷ (w / 256 % 256) ∷ (w %
 -- a call of which only the first word is known: a start address and a message come in data words
 abbrev pub bare : Call ℕ → Call ℕ
 bare (Create id level start message) = Create id level 0 0
-bare Kill = Kill
-bare Suspend = Suspend
-bare (SetLevel level) = SetLevel level
-bare (ById id call) = ById id call
-bare (Send cell message stay) = Send cell message stay
-bare (Wait cell) = Wait cell
-bare (Delay ticks) = Delay ticks
-bare (Transfer unit t) = Transfer unit t
-bare (Look at) = Look at
-bare Tick = Tick
-bare (Service unit) = Service unit
+bare c = c
 
 -- the parts of a word
 abbrev pub kind_of : ℕ → Option Kind
@@ -47,34 +37,36 @@ low_of w = w % 256
 -- the call whose first word can have these parts: its sub-kind and what stands in the places that it names
 abbrev pub own_call : ℕ → ℕ → Option (Call ℕ)
 own_call sub low =
-    cond (sub == 0) (Some Kill)
-    (cond (sub == 1) (Some Suspend)
-    (cond (sub == 2) (Some (SetLevel low)) None))
+    if sub == 0 then Some Kill
+    else if sub == 1 then Some Suspend
+    else if sub == 2 then Some (SetLevel low)
+    else None
 
 abbrev pub by_id_call : ℕ → ℕ → ℕ → Option (Call ℕ)
 by_id_call sub middle low =
-    cond (sub == 0) (Some (ById middle order.Kill))
-    (cond (sub == 1) (Some (ById middle order.Ready))
-    (cond (sub == 2) (Some (ById middle order.Suspend))
-    (cond (sub == 3) (Some (ById middle (order.SetLevel low)))
-    (cond (sub == 4) (Some (ById middle order.Status)) None))))
+    if sub == 0 then Some (ById middle order.Kill)
+    else if sub == 1 then Some (ById middle order.Ready)
+    else if sub == 2 then Some (ById middle order.Suspend)
+    else if sub == 3 then Some (ById middle (order.SetLevel low))
+    else if sub == 4 then Some (ById middle order.Status)
+    else None
 
 abbrev pub transfer_call : ℕ → ℕ → ℕ → Option (Call ℕ)
 transfer_call sub high low =
-    cond (sub == 0) (Some (Transfer high (moves.Write low)))
-    (cond (sub == 1) (Some (Transfer high (moves.WriteLine low)))
-    (cond (sub == 2) (Some (Transfer high (moves.Read low)))
-    (cond (sub == 3) (Some (Transfer high moves.ReadLine)) None)))
+    if sub == 0 then Some (Transfer high (moves.Write low))
+    else if sub == 1 then Some (Transfer high (moves.WriteLine low))
+    else if sub == 2 then Some (Transfer high (moves.Read low))
+    else if sub == 3 then Some (Transfer high moves.ReadLine)
+    else None
 
 abbrev pub look_call : ℕ → Option (Call ℕ)
 look_call sub =
-    cond (sub == 0) (Some (Look field.Message))
-    (cond (sub == 1) (Some (Look field.Start))
-    (cond (sub == 2) (Some (Look field.Outcome)) None))
+    if sub == 0 then Some (Look field.Message)
+    else if sub == 1 then Some (Look field.Start)
+    else if sub == 2 then Some (Look field.Outcome)
+    else None
 
 abbrev pub likely : Option Kind → ℕ → ℕ → ℕ → ℕ → Option (Call ℕ)
-likely None sub high middle low = None
-likely (Some kind.Data) sub high middle low = None
 likely (Some kind.Create) sub high middle low = Some (Create high middle 0 0)
 likely (Some kind.Own) sub high middle low = own_call sub low
 likely (Some kind.ById) sub high middle low = by_id_call sub middle low
@@ -85,8 +77,7 @@ likely (Some kind.Transfer) sub high middle low = transfer_call sub high low
 likely (Some kind.Service) sub high middle low = Some (Service high)
 likely (Some kind.Tick) sub high middle low = Some Tick
 likely (Some kind.Look) sub high middle low = look_call sub
-likely (Some kind.Granted) sub high middle low = None
-likely (Some kind.Refused) sub high middle low = None
+likely k sub high middle low = None
 
 abbrev pub likely_of : ℕ → Option (Call ℕ)
 likely_of w = likely (kind_of w) (sub_of w) (high_of w) (middle_of w) (low_of w)

@@ -19,9 +19,8 @@ reading_with f g (Err refusal) = Err refusal
 
 -- what is found takes at least a word, so reading on comes to an end
 abbrev pub Shorter : {X : Type 0} → List ℕ → Result (Option (X × List ℕ)) Refusal → Type 0
-Shorter bytes (Ok None) = Unit {0}
 Shorter bytes (Ok (Some found)) = length found.1 + 4 ≤ length bytes
-Shorter bytes (Err refusal) = Unit {0}
+Shorter bytes r = Unit {0}
 
 -- a call can be written: a word has place for the length of its text or read
 abbrev pub Writable : Call (List ℕ) → Type 0

@@ -1,5 +1,5 @@
 -- What writing leaves in the place that it writes to, and what it tells.
-use Rattle.std.specs.Prelude.{ℕ, ◌+◌, ◌*◌, ◌/◌, cond, List, ◌++◌, length, take, drop, Ok, Err, Result, nat_lt}
+use Rattle.std.specs.Prelude.{ℕ, ◌+◌, ◌*◌, ◌/◌, if◌then◌else◌, List, ◌++◌, length, take, drop, Ok, Err, Result, nat_lt}
 use Rattle.calls.specs.Calls.{call_with}
 use Rattle.calls.specs.declared.call.Call.{Call}
 use Rattle.calls.specs.declared.call.Call.TheVariants.{Create}
@@ -14,11 +14,11 @@ laid at bytes out = take at out ++ (bytes ++ drop (length bytes) (drop at out))
 
 -- words are written if there is room for them, and what is told is how many bytes they take
 abbrev pub told_writing : List ℕ → List ℕ → Result ℕ Refusal
-told_writing words out = cond (nat_lt (length out) (length words)) (Err NoRoom) (Ok (length words))
+told_writing words out = if nat_lt (length out) (length words) then Err NoRoom else Ok (length words)
 
 -- a call is written if a word has place for the length of its text or read, and then if there is room
 abbrev pub told_call : Call (List ℕ) → List ℕ → Result ℕ Refusal
-told_call c out = cond (nat_lt 255 (length_in (call_with length c))) (Err BadLength) (told_writing (call_words c) out)
+told_call c out = if nat_lt 255 (length_in (call_with length c)) then Err BadLength else told_writing (call_words c) out
 
 -- what writing leaves: the words and what lies past them as it was; on a refusal all as it was
 abbrev pub left_by : Result ℕ Refusal → List ℕ → List ℕ → List ℕ

@@ -21,7 +21,9 @@ const NO_RECORD: u8 = 255;
 fn starts_data(bytes: &[u8]) -> bool
     ensures { result ≡ starts_data bytes.now }
 {
-    bytes.first().is_some_and(|first| *first < 16)
+    bytes
+        .first()
+        .is_some_and(|first| *first / 16 == u8::from(Kind::Data))
 }
 
 // The reply that a word is.
@@ -31,13 +33,16 @@ fn reply_of(word: u32) -> Option<(Option<u8>, Result<u16, Refusal>)>
     if sub_kind(word) != 0 {
         return None;
     }
-    let reply = match kind(word)? {
-        Kind::Granted => Ok(number(word)),
-        Kind::Refused => Err(Refusal::try_from(number(word)).ok()?),
-        _ => return None,
-    };
     let record = high(word);
-    Some(((record != NO_RECORD).then_some(record), reply))
+    let running = (record != NO_RECORD).then_some(record);
+    match kind(word)? {
+        Kind::Granted => Some((running, Ok(number(word)))),
+        Kind::Refused => {
+            let refusal = Refusal::try_from(number(word)).ok()?;
+            Some((running, Err(refusal)))
+        }
+        _ => None,
+    }
 }
 
 // The bytes of text that follow a reply: none unless a data word follows, and then as many as the outcome of a read

@@ -27,7 +27,7 @@ pub(crate) fn text_length(call: Call<usize>) -> usize
 }
 
 // Takes a text of `size` bytes off the data words at the front of `bytes`, puts it into `text`, and tells it and the
-// rest.
+// rest. It writes by place, since a proof knows nothing of what is written through `chunks_mut`.
 pub(crate) fn read_text<'b, 't>(
     bytes: &'b [u8],
     size: usize,

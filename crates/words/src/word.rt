@@ -59,33 +59,33 @@ pub(crate) fn kind(word: u32) -> Option<Kind>
 pub(crate) fn sub_kind(word: u32) -> u8
     ensures { result ≡ sub_of word }
 {
-    (word >> 24 & 0xf) as u8
+    word.to_be_bytes()[0] % 16
 }
 
 // Bits 23 to 16.
 pub(crate) fn high(word: u32) -> u8
     ensures { result ≡ high_of word }
 {
-    (word >> 16 & 0xff) as u8
+    word.to_be_bytes()[1]
 }
 
 // Bits 15 to 8.
 pub(crate) fn middle(word: u32) -> u8
     ensures { result ≡ middle_of word }
 {
-    (word >> 8 & 0xff) as u8
+    word.to_be_bytes()[2]
 }
 
 // Bits 7 to 0.
 pub(crate) fn low(word: u32) -> u8
     ensures { result ≡ low_of word }
 {
-    (word & 0xff) as u8
+    word.to_be_bytes()[3]
 }
 
 // Bits 15 to 0.
 pub(crate) fn number(word: u32) -> u16
     ensures { result ≡ middle_of word * 256 + low_of word }
 {
-    (word & 0xffff) as u16
+    u16::from_be_bytes([middle(word), low(word)])
 }
