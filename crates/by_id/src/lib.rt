@@ -14,6 +14,8 @@ use calls::{ByIdCall, Refusal};
 use own::{kill, or_else, set_level, suspend};
 use tables::Tables;
 
+// Each call below finds its task by itself: one helper for all would take two closures, and be no shorter.
+
 // A call on the task with the id.
 pub fn by_id(tables: &mut Tables, id: u8, call: ByIdCall) -> Result<u16, Refusal>
     ensures { Does (ById id call) tables.old tables.new result }

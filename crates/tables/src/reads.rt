@@ -31,17 +31,14 @@ impl Tables {
     pub fn task(&self, k: usize) -> Option<&Task>
         ensures { (us : List Medium) → MatchOption result (length (state us self.now).table.tasks ≤ k) (λ t. (k < length (state us self.now).table.tasks) × (as_task t.now ≡ task_of (state us self.now) k)) }
     {
-        if k < self.tasks.count() {
-            Some(self.tasks.task(k))
-        } else {
-            None
-        }
+        (k < self.tasks.count()).then(|| self.tasks.task(k))
     }
 
     // Where the record `k` is, if there is one.
     pub fn place(&self, k: usize) -> Option<Place>
         ensures { (us : List Medium) → MatchOption result (length (state us self.now).table.tasks ≤ k) (λ p. (k < length (state us self.now).table.tasks) × (p ≡ place_in (state us self.now) k)) }
     {
+        // Tried as `then`: the proof did not close.
         if k < self.tasks.count() {
             Some(self.place_of(k))
         } else {
@@ -87,6 +84,7 @@ impl Tables {
     pub fn outcome_text(&self) -> &[u8]
         ensures { (us : List Medium) → result.now ≡ outcome_text (state us self.now) }
     {
+        // Tried as `map_or`: the proof did not close.
         match self.tasks.running() {
             Some(task) => bytes_read(self.tasks.task(task)),
             None => &[],

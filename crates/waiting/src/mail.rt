@@ -37,10 +37,9 @@ fn release_sender(tasks: &mut Tasks, cells: &mut Cells, cell: u8)
     ensures cells { post.cells cells.new ≡ leave_first cell (post.cells cells.old) }
     ensures room { post.room cells.new ≡ post.room cells.old }
 {
-    let Some(sender) = cells.take_first_at(cell) else {
-        return;
-    };
-    tasks.release(sender);
+    if let Some(sender) = cells.take_first_at(cell) {
+        tasks.release(sender);
+    }
 }
 
 // The running task sends a message to a cell. All receivers that wait there get it, and only then is the running task linked;
