@@ -19,7 +19,9 @@ impl Punch {
     pub fn new() -> Punch
         ensures { punch_of result ≡ fresh [] full_room punch_code }
     {
-        Punch { tape: Buffer::new() }
+        Punch {
+            tape: Buffer::new(),
+        }
     }
 
     pub fn taken(&self) -> &[u8]
