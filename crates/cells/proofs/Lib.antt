@@ -1,3 +1,2 @@
 -- The lemmas that the proofs share, and those for callers.
 pub mod Waits
-pub mod Counts

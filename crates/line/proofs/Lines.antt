@@ -150,9 +150,6 @@ module _ {R : Type 0} (x : Line R) where
   pub line-few : length (tasks x) ≤ room x
   line-few = chain-few (nexts x.links) x.head x.ends
 
-  pub line-within : (t : ℕ) → has t (tasks x) ≡ true → t < room x
-  line-within t on = on-within (nexts x.links) x.head t x.ends on
-
 -- joining in other words, where these rank as the former do
 pub join-words : {A B : Type 0} (word : A → B) (rank : B → ℕ) (x : A) (xs : List A) → map word (join (λ a. rank (word a)) x xs) ≡ join rank (word x) (map word xs)
 join-words word rank x [] = refl
