@@ -3,7 +3,7 @@
 
 #[cfg(test)]
 mod tests {
-    use calls::{ByIdCall, Call, LookedAt, Refusal, Stop, Transfer};
+    use calls::{ByIdCall, Call, LookedAt, Refusal, Stop, Transfer, UnknownRefusal};
     use report::{end_line, word_line};
     use std::process::Abort;
     use std::test::Fail;
@@ -436,6 +436,19 @@ mod tests {
         no_answer(&rt, b"\xc0\x00\x25\x00\x00A\r\x00");
         no_answer(&rt, b"\xd0\x00\x00\x01\x00A\r\x00");
         no_answer(&rt, b"\xc0\x00\x00");
+    }
+
+    // A refusal and its number, both ways, and what is told of a number that no refusal has.
+    #[test]
+    fn refusal_numbers(rt: HostRuntime) -> Result<(), Fail> {
+        assert_eq!(rt; u8::from(Refusal::NoRoom), 17);
+        assert_eq!(rt; Refusal::try_from(17), Ok(Refusal::NoRoom));
+        assert_eq!(rt; Refusal::try_from(18), Err(UnknownRefusal(18)));
+        let unknown = UnknownRefusal(18);
+        assert!(rt;
+            format!(in rt.alloc(); "{unknown}")?.as_str() == "no refusal has the number 18"
+        );
+        Ok(())
     }
 
     // The lines of the worked example: an answer word and the last line.

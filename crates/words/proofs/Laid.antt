@@ -1,5 +1,5 @@
 -- Bytes laid over others.
-use Rattle.std.proofs.Common.{◌≡◌, ℕ, ◌+◌, ◌-◌, ◌≤◌, List, [], ◌∷◌, ◌++◌, length, get_or, take, drop, sym, refl, ap, ◌∙◌, append_assoc, arith}
+use Rattle.std.proofs.Common.{◌≡◌, ℕ, ◌+◌, ◌-◌, ◌≤◌, List, [], ◌∷◌, ◌++◌, length, slice_index_or, take, drop, sym, refl, ap, ◌∙◌, append_assoc, arith}
 use Rattle.std.proofs.lemmas.List.{drop-drop, drop_more, length-append, length-drop, length-take-le, nil_from_length, take-append-drop, take_rest}
 use Rattle.std.proofs.lemmas.Slice.{drop-put_mid, take-put_mid}
 use Rattle.words.specs.Format.{text_words, word}
@@ -28,20 +28,20 @@ laid_more at to xs ys out e h =
     cc
 
 -- the words of a text of three bytes or more, and of none
-pub three_first : (xs : List ℕ) → 3 ≤ length xs → text_words xs ≡ word 0 0 (get_or xs 0 0) (get_or xs 1 0) (get_or xs 2 0) ++ text_words (take (length xs - 3) (drop 3 xs))
+pub three_first : (xs : List ℕ) → 3 ≤ length xs → text_words xs ≡ word 0 0 (slice_index_or xs 0 0) (slice_index_or xs 1 0) (slice_index_or xs 2 0) ++ text_words (take (length xs - 3) (drop 3 xs))
 three_first xs h =
     let a = drop_more xs 0 0 (omega arith) in
     let b = drop_more xs 1 0 (omega arith) in
     let c = drop_more xs 2 0 (omega arith) in
     let r = take_rest xs 3 in
-    let e : xs ≡ get_or xs 0 0 ∷ get_or xs 1 0 ∷ get_or xs 2 0 ∷ take (length xs - 3) (drop 3 xs) = cc in
+    let e : xs ≡ slice_index_or xs 0 0 ∷ slice_index_or xs 1 0 ∷ slice_index_or xs 2 0 ∷ take (length xs - 3) (drop 3 xs) = cc in
     ap text_words e
 
 pub none_last : (xs : List ℕ) → length xs ≡ 0 → text_words xs ≡ []
 none_last xs h = ap text_words (nil_from_length xs h)
 
 -- a word more of a text that is being laid
-pub laid_word : (at w : ℕ) (rest out now' all : List ℕ) → 3 ≤ length rest → word_bytes w ≡ word 0 0 (get_or rest 0 0) (get_or rest 1 0) (get_or rest 2 0) → now' ≡ laid at (word_bytes w) out
+pub laid_word : (at w : ℕ) (rest out now' all : List ℕ) → 3 ≤ length rest → word_bytes w ≡ word 0 0 (slice_index_or rest 0 0) (slice_index_or rest 1 0) (slice_index_or rest 2 0) → now' ≡ laid at (word_bytes w) out
     → laid at (text_words rest) out ≡ all → at + length (text_words rest) ≤ length out
     → (laid (at + 4) (text_words (take (length rest - 3) (drop 3 rest))) now' ≡ all) × (at + 4 + length (text_words (take (length rest - 3) (drop 3 rest))) ≤ length now')
 laid_word at w rest out now' all h e f i r =

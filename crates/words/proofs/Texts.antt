@@ -1,5 +1,5 @@
 -- Texts as data words, three bytes at a time.
-use Rattle.std.proofs.Common.{◌≡◌, ℕ, zero, suc, ◌+◌, ◌-◌, ◌*◌, ◌/◌, ◌%◌, ◌<◌, ◌≤◌, min, true, List, [], ◌∷◌, ◌++◌, length, take, drop, set, sym, refl, ap, ◌∙◌, append_assoc, arith}
+use Rattle.std.proofs.Common.{◌≡◌, ℕ, zero, suc, ◌+◌, ◌-◌, ◌*◌, ◌/◌, ◌%◌, ◌<◌, ◌≤◌, min, true, List, [], ◌∷◌, ◌++◌, length, take, drop, slice_set, sym, refl, ap, ◌∙◌, append_assoc, arith}
 use Rattle.std.proofs.lemmas.List.{drop-drop, length-drop, length-set, length-take-le, take_all, take_more_set, take-set-le}
 use Rattle.std.proofs.lemmas.Bool.Decides.{nat_tests}
 use Rattle.words.specs.Format.{word, text_words}
@@ -61,20 +61,20 @@ goes_on_lem w (suc (suc (suc n))) h g =
     word-is ∙ ap (λ (r : List ℕ). text_words (high_of w ∷ middle_of w ∷ low_of w ∷ r)) (sym (take_all n [] (omega arith)))
 
 -- three bytes laid at a place, as far as the text goes
-three_more : (text : List ℕ) (at left h m l : ℕ) → at + 2 < length text → 1 ≤ left → take (min (at + 3) (at + left)) (set (set (set text at h) (at + 1) m) (at + 2) l) ≡ take at text ++ take left (h ∷ m ∷ l ∷ [])
+three_more : (text : List ℕ) (at left h m l : ℕ) → at + 2 < length text → 1 ≤ left → take (min (at + 3) (at + left)) (slice_set (slice_set (slice_set text at h) (at + 1) m) (at + 2) l) ≡ take at text ++ take left (h ∷ m ∷ l ∷ [])
 three_more text at zero h m l b p = absurd (omega arith)
 three_more text at (suc zero) h m l b p =
     let n : min (at + 3) (at + 1) ≡ at + 1 = omega arith in
     let one = take_more_set text at h (omega arith) in
-    let two = take-set-le (at + 1) (set text at h) (at + 1) m (omega arith) in
-    let three = take-set-le (at + 1) (set (set text at h) (at + 1) m) (at + 2) l (omega arith) in
+    let two = take-set-le (at + 1) (slice_set text at h) (at + 1) m (omega arith) in
+    let three = take-set-le (at + 1) (slice_set (slice_set text at h) (at + 1) m) (at + 2) l (omega arith) in
     cc
 three_more text at (suc (suc zero)) h m l b p =
     let n : min (at + 3) (at + 2) ≡ at + 2 = omega arith in
     let s : at + 1 + 1 ≡ at + 2 = omega arith in
     let one = take_more_set text at h (omega arith) in
-    let two = take_more_set (set text at h) (at + 1) m (simp length-set (omega arith)) in
-    let three = take-set-le (at + 2) (set (set text at h) (at + 1) m) (at + 2) l (omega arith) in
+    let two = take_more_set (slice_set text at h) (at + 1) m (simp length-set (omega arith)) in
+    let three = take-set-le (at + 2) (slice_set (slice_set text at h) (at + 1) m) (at + 2) l (omega arith) in
     let a = append_assoc (take at text) (h ∷ []) (m ∷ []) in
     cc
 three_more text at (suc (suc (suc left))) h m l b p =
@@ -82,8 +82,8 @@ three_more text at (suc (suc (suc left))) h m l b p =
     let s : at + 1 + 1 ≡ at + 2 = omega arith in
     let t : at + 2 + 1 ≡ at + 3 = omega arith in
     let one = take_more_set text at h (omega arith) in
-    let two = take_more_set (set text at h) (at + 1) m (simp length-set (omega arith)) in
-    let three = take_more_set (set (set text at h) (at + 1) m) (at + 2) l (simp length-set (omega arith)) in
+    let two = take_more_set (slice_set text at h) (at + 1) m (simp length-set (omega arith)) in
+    let three = take_more_set (slice_set (slice_set text at h) (at + 1) m) (at + 2) l (simp length-set (omega arith)) in
     let a = append_assoc (take at text) (h ∷ []) (m ∷ []) in
     let b = append_assoc (take at text) (h ∷ m ∷ []) (l ∷ []) in
     let all = take_all (suc (suc (suc left))) (h ∷ m ∷ l ∷ []) (omega arith) in
@@ -92,7 +92,7 @@ three_more text at (suc (suc (suc left))) h m l b p =
 -- a word more of a text that is being read
 pub read_more : (bytes rest after text : List ℕ) (at size w : ℕ) → at + 2 < length text → at % 3 ≡ 0 → at < size → goes_on w (size - at) ≡ true
     → bytes ≡ text_words (take (min at size) text) ++ rest → rest ≡ word_bytes w ++ after
-    → bytes ≡ text_words (take (min (at + 3) size) (set (set (set text at (high_of w)) (at + 1) (middle_of w)) (at + 2) (low_of w))) ++ after
+    → bytes ≡ text_words (take (min (at + 3) size) (slice_set (slice_set (slice_set text at (high_of w)) (at + 1) (middle_of w)) (at + 2) (low_of w))) ++ after
 read_more bytes rest after text at size w b m l g e f =
     let n : min at size ≡ at = omega arith in
     let s : at + (size - at) ≡ size = omega arith in
