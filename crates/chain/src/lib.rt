@@ -13,7 +13,8 @@ ghost use Rattle.chain.specs.Lists.{first, has, join, rank_in, rest, rising, wit
 
 use std::alloc::{AllocError, Global};
 
-// A kind of record that has a rank. A smaller number ranks above.
+// A kind of record that has a rank. A smaller number ranks above. Nothing here ranks all alike by default: a kind that forgot
+// its rank would then pass as one of those that do.
 pub trait Ranked {
     // what the rank means
     ghost rank: { Self → ℕ };

@@ -1,5 +1,6 @@
 // A line of waiting tasks: one chain of ranked records in a table of its own, where the record `t` is that of task `t`.
-// It means the list of the tasks on it with their records, in order.
+// It means the list of the tasks on it with their records, in order. Beside that it has room for so many tasks, which is settled
+// at run time; a model would be a record of both, and every clause would name its part as it does now.
 #![tactic(auto)]
 
 ghost use Rattle.std.specs.Prelude.{◌≡◌, ℕ};

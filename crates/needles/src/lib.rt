@@ -11,7 +11,8 @@ mod taking;
 const ROWS: usize = 512;
 
 // Rows of eight bytes, the first byte of a row the highest. The first `count` bytes are taken,
-// and those behind them are zero.
+// and those behind them are zero. All rows are there from the start, so `count` is not their
+// length.
 #[derive(Drop)]
 pub struct NeedleBank {
     rows: [u64; ROWS],

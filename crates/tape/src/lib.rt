@@ -17,7 +17,7 @@ pub use reader::Reader;
 // Of a tape, or of the keys, so many bytes are used.
 const LONGEST: usize = 65_536;
 
-// Bytes to give, and how many of them are given.
+// Bytes to give, and how many of them are given: an iterator over them could not show those that it has given.
 #[derive(Drop)]
 struct Supply {
     bytes: Vec<u8>,

@@ -18,7 +18,8 @@ pub const ROOM: usize = 4_096;
 //
 // Each kind says by `medium` what any of its states means, and shows that take and give do to
 // that meaning what the rules say. Code that is generic over this trait is proved once, for
-// every kind.
+// every kind. A kind has no model of its own: the law on codes would then be owed of every
+// medium, also of those that no unit of the kind has.
 pub trait Unit {
     // The device code of the kind, which an outcome tells.
     const CODE: u8;

@@ -28,6 +28,7 @@ fn release_due(tasks: &mut Tasks, waits: &mut ClockWaits, reading: u64) -> u16
     ensures count { result ≡ length (sleepers (due_at reading (sleeping waits.old))) }
     ensures room { room waits.new ≡ room waits.old }
 {
+    // A closure that pops and releases would tell nothing of what it changed, so this counts.
     let mut count = 0;
     while let Some(task) = waits.pop_due(reading) {
         tasks.release(task);

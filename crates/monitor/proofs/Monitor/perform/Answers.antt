@@ -12,7 +12,7 @@ returns g c =
       tasks = sealed_tasks c.args.sealed;
       timed = ticks (sealed_rate c.args.sealed);
       units = media g.A.Unit g.B.Unit g.C.Unit g.D.Unit c.args.units;
-      some = c.args.sealed.some;
+      some = c.args.sealed.kept.some;
       four = refl;
       is = refl;
     }) c.in_ok-monitor.ensures e.state (rw (e.answers, c.in-Ok.ensures.items)) e.lawful
