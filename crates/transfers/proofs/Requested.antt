@@ -1,5 +1,5 @@
 -- A transfer that is asked for, and one that is refused.
-use Rattle.std.proofs.Common.{◌≡◌, ℕ, zero, suc, Bool, true, false, cond, not, ltb, List, [], length, set, Some, Ok, Err, Option, Result, sym, refl, ap, ◌∙◌, arith}
+use Rattle.std.proofs.Common.{◌≡◌, ℕ, zero, suc, Bool, true, false, cond, not, ltb, List, [], length, set, Some, Ok, Err, Option, Result, sym, refl, ap, ◌∙◌}
 use Rattle.std.proofs.lemmas.Bool.{cond-false}
 use Rattle.calls.specs.declared.call.Call.TheVariants as call
 use Rattle.calls.specs.declared.call.Transfer.{Transfer}
@@ -59,7 +59,7 @@ unit_of_lem zero at e = let z : at ≡ Unit0 = cc in (ap number_of z, refl)
 unit_of_lem (suc zero) at e = let z : at ≡ Unit1 = cc in (ap number_of z, refl)
 unit_of_lem (suc (suc zero)) at e = let z : at ≡ Unit2 = cc in (ap number_of z, refl)
 unit_of_lem (suc (suc (suc zero))) at e = let z : at ≡ Unit3 = cc in (ap number_of z, refl)
-unit_of_lem (suc (suc (suc (suc n)))) at e = let z : ◌≡◌ {A = ℕ} 0 1 = cc in absurd (omega arith)
+unit_of_lem (suc (suc (suc (suc n)))) at e = cc
 
 -- the running task asks a unit that there is
 module _ (k : Tables) (t unit : ℕ) (at : UnitNumber) (x : Transfer (List ℕ)) (runs : Some t ≡ (table k.tasks).running) (there : Ok at ≡ told unit) (us : List Medium) where

@@ -36,20 +36,20 @@ use Rattle.tables.proofs.Stands.{low}
 
 none_of : {X : Type 0} (o : Option X) → false ≡ is_some o → o ≡ None
 none_of None e = refl
-none_of (Some x) e = let z : ◌≡◌ {A = ℕ} 0 1 = cc in absurd (omega arith)
+none_of (Some x) e = cc
 
 some_of : {X : Type 0} (o : Option X) → true ≡ is_some o → (x : X) × (o ≡ Some x)
-some_of None e = let z : ◌≡◌ {A = ℕ} 0 1 = cc in absurd (omega arith)
+some_of None e = cc
 some_of (Some x) e = (x, refl)
 
 -- a transfer that goes on has one more byte moved
 out-on : (r : Request) (bytes : List ℕ) (m : Medium) (told : Result (Unit {0}) UnitFault) → (move_out r bytes m told).ends ≡ None → (move_out r bytes m told).moved ≡ r.moved + 1
 out-on r bytes m (Ok x) e = refl
-out-on r bytes m (Err f) e = let z : ◌≡◌ {A = ℕ} 0 1 = cc in absurd (omega arith)
+out-on r bytes m (Err f) e = cc
 
 in_on : (lines : Bool) (r : Request) (bytes : List ℕ) (m : Medium) (told : Result ℕ UnitFault) → (move_in lines r bytes m told).ends ≡ None → (move_in lines r bytes m told).moved ≡ r.moved + 1
 in_on lines r bytes m (Ok x) e = refl
-in_on lines r bytes m (Err f) e = let z : ◌≡◌ {A = ℕ} 0 1 = cc in absurd (omega arith)
+in_on lines r bytes m (Err f) e = cc
 
 move-on : (k : Option TransferKind) (r : Request) (bytes : List ℕ) (m : Medium) → (move k r bytes m).ends ≡ None → (move k r bytes m).moved ≡ r.moved + 1
 move-on k r bytes m = by (writes k)

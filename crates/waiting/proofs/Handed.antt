@@ -42,7 +42,7 @@ spread-still t f a b c m x y to is s =
 
 pub none_there : {A : Type 0} (xs : List A) → None ≡ first xs → xs ≡ []
 none_there [] f = refl
-none_there (x ∷ xs) f = let z : ◌≡◌ {A = ℕ} 0 1 = cc in absurd (omega arith)
+none_there (x ∷ xs) f = cc
 
 -- The receivers at a cell -----------------------------------------------------------------------------------------------------
 
