@@ -30,7 +30,7 @@ use Rattle.tables.specs.Parts.{state_of}
 use Rattle.tables.specs.View.{state}
 use Rattle.transfers.proofs.Requested.{Is, is}
 use Rattle.moving.proofs.Services.{Moves}
-use Rattle.tables.proofs.Stands.{low}
+use Rattle.tables.proofs.Stands.{First, low}
 
 -- Ends ------------------------------------------------------------------------------------------------------------------------
 
@@ -60,7 +60,10 @@ move-on k r bytes m = by (writes k)
 
 -- Services --------------------------------------------------------------------------------------------------------------------
 
-module _ (k : Tables) (unit : UnitNumber) (m : Medium) (us : List Medium) (four : length us ≡ 4) where
+-- the first request of a unit is moved on: the record x of its task becomes y, the unit, which meant m, means m', and b is the
+-- table with y
+module _ {k : Tables} {unit : UnitNumber} {r : Request} {x y : Task} {m' : Medium} {last : Bool} {b : Table} (m : Medium) (us : List Medium) (four : length us ≡ 4)
+    (f : First k unit r) (at : x ≡ record_in (table k.tasks) r.task) (h : Moves m' y last (move_for x r m) x) (to : b ≡ change r.task (λ _. y) (table k.tasks)) where
   -- the state, with that unit
   abbrev over : Medium → State
   over m = state (set us (number_of unit) m) k
@@ -68,46 +71,44 @@ module _ (k : Tables) (unit : UnitNumber) (m : Medium) (us : List Medium) (four 
   serves : apply (Service (number_of unit)) (over m) ≡ serving (number_of unit) (queue_at unit k.queues) (over m)
   serves = let l = low unit in cond-false (ltb 3 (number_of unit)) (refuse NoSuchUnit (over m)) (serving (number_of unit) (queue_at unit k.queues) (over m)) (grind (arith, nat_tests))
 
-  module _ (r : Request) (x y : Task) (m' : Medium) (last : Bool) (b : Table) (tasks : Tasks) (requests : Queues)
-      (starts : queue_at unit k.queues ≡ r ∷ rest (queue_at unit k.queues)) (at : x ≡ record_in (table k.tasks) r.task) (h : Moves m' y last (move_for x r m) x) (to : b ≡ change r.task (λ _. y) (table k.tasks)) where
-    abbrev u : ℕ
-    u = number_of unit
+  abbrev u : ℕ
+  u = number_of unit
 
-    abbrev v : Move
-    v = move_for x r m
+  abbrev v : Move
+  v = move_for x r m
 
-    abbrev rs : List Request
-    rs = rest (queue_at unit k.queues)
+  abbrev rs : List Request
+  rs = rest (queue_at unit k.queues)
 
-    by_move : apply (Service u) (over m) ≡ moving u r rs v v.ends (over m)
-    by_move =
-        serves ∙ ap (λ (q : List Request). serving u q (over m)) starts
-        ∙ ap (λ (d : Medium). moving u r rs (move_for (record_in (table k.tasks) r.task) r d) (move_for (record_in (table k.tasks) r.task) r d).ends (over m)) (get_or-set_same us u m (fresh [] 0 0) (let l = low unit in omega arith))
-        ∙ ap (λ (i : Task). moving u r rs (move_for i r m) (move_for i r m).ends (over m)) (sym at)
+  by_move : apply (Service u) (over m) ≡ moving u r rs v v.ends (over m)
+  by_move =
+      serves ∙ ap (λ (q : List Request). serving u q (over m)) f.starts
+      ∙ ap (λ (d : Medium). moving u r rs (move_for (record_in (table k.tasks) r.task) r d) (move_for (record_in (table k.tasks) r.task) r d).ends (over m)) (get_or-set_same us u m (fresh [] 0 0) (let l = low unit in omega arith))
+      ∙ ap (λ (i : Task). moving u r rs (move_for i r m) (move_for i r m).ends (over m)) (sym at)
 
-    units_are : set us u m' ≡ set (set us u m) u v.unit
-    units_are = ap (set us u) h.medium ∙ sym (set-set us u m v.unit)
+  units_are : set us u m' ≡ set (set us u m) u v.unit
+  units_are = ap (set us u) h.medium ∙ sym (set-set us u m v.unit)
 
-    pub went_on : last ≡ false → table tasks ≡ b → queues requests ≡ set (queues k.queues) u (advanced (queue_at unit k.queues))
-        → Is (state_of (set us u m') tasks k.waits k.cells requests k.clock) (Ok 0) (apply (Service u) (over m))
-    went_on l t q =
-        let n : v.ends ≡ None = none_of v.ends (sym l ∙ h.ends) in
-        let p : y ≡ with_bytes v.bytes (record_in (table k.tasks) r.task) = h.task ∙ ap (λ (o : Option Outcome). moved.ending v.bytes o x) n ∙ ap (with_bytes v.bytes) at in
-        let a : table tasks ≡ change r.task (with_bytes v.bytes) (table k.tasks) = t ∙ to ∙ change_as r.task (with_bytes v.bytes) y (table k.tasks) p in
-        let c : queues requests ≡ set (queues k.queues) u ((record { task = r.task; size = r.size; moved = v.moved }) ∷ rs) =
-        q ∙ ap (λ (z : List Request). set (queues k.queues) u (advanced z)) starts ∙ ap (λ (i : ℕ). set (queues k.queues) u ((record { task = r.task; size = r.size; moved = i }) ∷ rs)) (sym (move-on x.kind r x.bytes m n)) in
-        let w = units_are in
-        is (state_of (set us u m') tasks k.waits k.cells requests k.clock) (Ok 0) (apply (Service u) (over m)) (going_on u r rs v (over m))
-        (by_move ∙ ap (λ (o : Option Outcome). moving u r rs v o (over m)) n) (cc) refl
+  pub went_on : (tasks : Tasks) (requests : Queues) → last ≡ false → table tasks ≡ b → queues requests ≡ set (queues k.queues) u (advanced (queue_at unit k.queues))
+      → Is (state_of (set us u m') tasks k.waits k.cells requests k.clock) (Ok 0) (apply (Service u) (over m))
+  went_on tasks requests l t q =
+      let n : v.ends ≡ None = none_of v.ends (sym l ∙ h.ends) in
+      let p : y ≡ with_bytes v.bytes (record_in (table k.tasks) r.task) = h.task ∙ ap (λ (o : Option Outcome). moved.ending v.bytes o x) n ∙ ap (with_bytes v.bytes) at in
+      let a : table tasks ≡ change r.task (with_bytes v.bytes) (table k.tasks) = t ∙ to ∙ change_as r.task (with_bytes v.bytes) y (table k.tasks) p in
+      let c : queues requests ≡ set (queues k.queues) u ((record { task = r.task; size = r.size; moved = v.moved }) ∷ rs) =
+      q ∙ ap (λ (z : List Request). set (queues k.queues) u (advanced z)) f.starts ∙ ap (λ (i : ℕ). set (queues k.queues) u ((record { task = r.task; size = r.size; moved = i }) ∷ rs)) (sym (move-on x.kind r x.bytes m n)) in
+      let w = units_are in
+      is (state_of (set us u m') tasks k.waits k.cells requests k.clock) (Ok 0) (apply (Service u) (over m)) (going_on u r rs v (over m))
+      (by_move ∙ ap (λ (o : Option Outcome). moving u r rs v o (over m)) n) (cc) refl
 
-    pub was_last : last ≡ true → table tasks ≡ turn (release r.task b) → queues requests ≡ set (queues k.queues) u rs
-        → Is (state_of (set us u m') tasks k.waits k.cells requests k.clock) (Ok 1) (apply (Service u) (over m))
-    was_last l t q =
-        let some = some_of v.ends (sym l ∙ h.ends) in
-        let o = some.0 in
-        let p : y ≡ with_outcome v.bytes o (record_in (table k.tasks) r.task) = h.task ∙ ap (λ (i : Option Outcome). moved.ending v.bytes i x) some.1 ∙ ap (with_outcome v.bytes o) at in
-        let a : table tasks ≡ turn (release r.task (change r.task (with_outcome v.bytes o) (table k.tasks))) =
-        t ∙ ap (λ (i : Table). turn (release r.task i)) (to ∙ change_as r.task (with_outcome v.bytes o) y (table k.tasks) p) in
-        let w = units_are in
-        is (state_of (set us u m') tasks k.waits k.cells requests k.clock) (Ok 1) (apply (Service u) (over m)) (ending u r rs v o (over m))
-        (by_move ∙ ap (λ (i : Option Outcome). moving u r rs v i (over m)) some.1) (cc) refl
+  pub was_last : (tasks : Tasks) (requests : Queues) → last ≡ true → table tasks ≡ turn (release r.task b) → queues requests ≡ set (queues k.queues) u rs
+      → Is (state_of (set us u m') tasks k.waits k.cells requests k.clock) (Ok 1) (apply (Service u) (over m))
+  was_last tasks requests l t q =
+      let some = some_of v.ends (sym l ∙ h.ends) in
+      let o = some.0 in
+      let p : y ≡ with_outcome v.bytes o (record_in (table k.tasks) r.task) = h.task ∙ ap (λ (i : Option Outcome). moved.ending v.bytes i x) some.1 ∙ ap (with_outcome v.bytes o) at in
+      let a : table tasks ≡ turn (release r.task (change r.task (with_outcome v.bytes o) (table k.tasks))) =
+      t ∙ ap (λ (i : Table). turn (release r.task i)) (to ∙ change_as r.task (with_outcome v.bytes o) y (table k.tasks) p) in
+      let w = units_are in
+      is (state_of (set us u m') tasks k.waits k.cells requests k.clock) (Ok 1) (apply (Service u) (over m)) (ending u r rs v o (over m))
+      (by_move ∙ ap (λ (i : Option Outcome). moving u r rs v i (over m)) some.1) (cc) refl

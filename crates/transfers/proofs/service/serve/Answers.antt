@@ -52,20 +52,16 @@ on : (g : given.Over) (c : After-advance g) (us : List Medium) → length us ≡
     → Is (state_of (set us (number_of c.args.unit) (g.U.Unit.medium c.one_move-moved.new.device)) c.replace.new.self c.args.tables.now.waits c.args.tables.now.cells c.advance.new.self c.args.tables.now.clock)
     (Ok 0) (apply (Service (number_of c.args.unit)) (state (set us (number_of c.args.unit) (g.U.Unit.medium c.args.device.now)) c.args.tables.now))
 on g c us four =
-    went_on c.args.tables.now c.args.unit (g.U.Unit.medium c.args.device.now) us four
-    (as_request c.in-Some.first) (as_task c.task-task.result.now) (as_task c.one_move-moved.result.task) (g.U.Unit.medium c.one_move-moved.new.device) c.one_move-moved.result.ends
-    (table c.replace.new.self) c.replace.new.self c.advance.new.self (found g (at-invariant_of-tables-2 g c).In-Some).starts c.task-task.ensures (move-is g (at-invariant_of-tables-2 g c).After-replace) c.replace.ensures
-    c.if-moved.false refl c.advance.ensures.queues
+    let w = at-invariant_of-tables-2 g c in
+    went_on (g.U.Unit.medium c.args.device.now) us four (found g w.In-Some) c.task-task.ensures (move-is g w.After-replace) c.replace.ensures c.replace.new.self c.advance.new.self c.if-moved.false refl c.advance.ensures.queues
 
 -- the transfer ends
 last : (g : given.Over) (c : After-finish g) (us : List Medium) → length us ≡ 4
     → Is (state_of (set us (number_of c.args.unit) (g.U.Unit.medium c.one_move-moved.new.device)) c.finish.new.tasks c.args.tables.now.waits c.args.tables.now.cells c.pop.new.self c.args.tables.now.clock)
     (Ok 1) (apply (Service (number_of c.args.unit)) (state (set us (number_of c.args.unit) (g.U.Unit.medium c.args.device.now)) c.args.tables.now))
 last g c us four =
-    was_last c.args.tables.now c.args.unit (g.U.Unit.medium c.args.device.now) us four
-    (as_request c.in-Some.first) (as_task c.task-task.result.now) (as_task c.one_move-moved.result.task) (g.U.Unit.medium c.one_move-moved.new.device) c.one_move-moved.result.ends
-    (table c.replace.new.self) c.finish.new.tasks c.pop.new.self (found g (at-invariant_of-tables g c).In-Some).starts c.task-task.ensures (move-is g (at-invariant_of-tables g c).After-replace) c.replace.ensures
-    c.if-moved.true c.finish.ensures c.pop.ensures.queues
+    let w = at-invariant_of-tables g c in
+    was_last (g.U.Unit.medium c.args.device.now) us four (found g w.In-Some) c.task-task.ensures (move-is g w.After-replace) c.replace.ensures c.finish.new.tasks c.pop.new.self c.if-moved.true c.finish.ensures c.pop.ensures.queues
 
 pub returns-then-moved : goal.returns-then-moved
 returns-then-moved g c = record { state = λ us four. (last g (at-returns-then-moved g c).After-finish us four).state; answer = λ us four. (last g (at-returns-then-moved g c).After-finish us four).answer; room = (refl, refl, c.pop.ensures.room) }
