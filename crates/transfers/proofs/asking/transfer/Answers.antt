@@ -1,5 +1,5 @@
 -- The caller is one of the records and waits nowhere; what it asks for is what the rules ask for.
-use Rattle.std.proofs.Common.{List, Ok, Err, refl, ap, ◌∙◌, arith}
+use Rattle.std.proofs.Common.{List, Ok, Err, refl, ap, ◌∙◌, arith, rules}
 use Rattle.calls.specs.Calls.{transfer_with}
 use Rattle.calls.specs.declared.call.Call.TheVariants.{Transfer}
 use Rattle.rules.specs.Rules.{apply}
@@ -16,6 +16,9 @@ use Rattle.transfers.proofs.asking.transfer.Goals.{After-turn, In_err-asked, at-
 not_done : (c : In_err-asked) (us : List Medium)
     → Is (state us c.args.tables.now) (Err c.in_err-asked.field-0.0) (apply (Transfer c.args.unit (transfer_with (λ t. t.now) c.args.transfer)) (state us c.args.tables.now))
 not_done c us = refused c.args.unit (transfer_with (λ t. t.now) c.args.transfer) c.in_ok-caller.ensures c.in_ok-at.ensures us c.in_err-asked.ensures
+
+pub returns-in_err-at : goal.returns-in_err-at
+returns-in_err-at c = record { state = λ us. search rules; answer = λ us. search rules; room = (refl, refl, refl) }
 
 pub returns-in_err-asked : goal.returns-in_err-asked
 returns-in_err-asked c =
