@@ -158,7 +158,7 @@ pub record First (k : Tables) (unit : UnitNumber) (r : Request) : Type 0 where
   pub fit : fits (record_in (table k.tasks) r.task) r ≡ true
 
 starts_with : (r : Request) (q : List Request) → Some r ≡ first q → q ≡ r ∷ rest q
-starts_with r [] e = let z : ◌≡◌ {A = ℕ} 0 1 = cc in absurd (omega arith)
+starts_with r [] e = cc
 starts_with r (x ∷ xs) e = let z : x ≡ r = cc in ap (λ (i : Request). i ∷ xs) z
 
 pub first_request : (k : Tables) (unit : UnitNumber) (r : Request) → Some r ≡ first (queues.queue_at unit k.queues) → First k unit r

@@ -1,5 +1,5 @@
 -- A transfer that is asked for, and one that is refused.
-use Rattle.std.proofs.Common.{◌≡◌, ℕ, zero, suc, Bool, true, false, cond, not, ltb, List, [], length, set, Some, Ok, Err, Option, Result, sym, refl, ap, ◌∙◌, arith}
+use Rattle.std.proofs.Common.{◌≡◌, ℕ, zero, suc, Bool, true, false, cond, not, ltb, List, [], length, set, Ok, Err, Option, Result, sym, refl, ap, ◌∙◌}
 use Rattle.std.proofs.lemmas.Bool.{cond-false}
 use Rattle.calls.specs.declared.call.Call.TheVariants as call
 use Rattle.calls.specs.declared.call.Transfer.{Transfer}
@@ -22,6 +22,7 @@ use Rattle.rules.specs.Acts.{Done, refuse}
 use Rattle.rules.specs.Rules.{apply, by_caller, of_unit}
 use Rattle.rules.specs.Transfers.{asking, bad_length, enqueue, has_line_end, line, transferring}
 use Rattle.tables.specs.declared.Tables.{Tables}
+use Rattle.tables.specs.Caller.{Caller}
 use Rattle.tables.specs.Parts.{state_of}
 use Rattle.tables.specs.View.{state}
 use Rattle.moving.specs.Wanted.{Wanted, wanted}
@@ -59,23 +60,23 @@ unit_of_lem zero at e = let z : at ≡ Unit0 = cc in (ap number_of z, refl)
 unit_of_lem (suc zero) at e = let z : at ≡ Unit1 = cc in (ap number_of z, refl)
 unit_of_lem (suc (suc zero)) at e = let z : at ≡ Unit2 = cc in (ap number_of z, refl)
 unit_of_lem (suc (suc (suc zero))) at e = let z : at ≡ Unit3 = cc in (ap number_of z, refl)
-unit_of_lem (suc (suc (suc (suc n)))) at e = let z : ◌≡◌ {A = ℕ} 0 1 = cc in absurd (omega arith)
+unit_of_lem (suc (suc (suc (suc n)))) at e = cc
 
 -- the running task asks a unit that there is
-module _ (k : Tables) (t unit : ℕ) (at : UnitNumber) (x : Transfer (List ℕ)) (runs : Some t ≡ (table k.tasks).running) (there : Ok at ≡ told unit) (us : List Medium) where
+module _ {k : Tables} {t : ℕ} {at : UnitNumber} (unit : ℕ) (x : Transfer (List ℕ)) (caller : Caller k t) (there : Ok at ≡ told unit) (us : List Medium) where
   asked_of : apply (call.Transfer unit x) (state us k) ≡ asks t (number_of at) (state us k) (wanted x)
   asked_of =
       let n = unit_of_lem unit at there in
       let s = state us k in
-      ap (λ (o : Option ℕ). by_caller o (λ (i : ℕ). of_unit unit (transferring i unit x s) s) s) (sym runs)
+      ap (λ (o : Option ℕ). by_caller o (λ (i : ℕ). of_unit unit (transferring i unit x s) s) s) (sym caller.runs)
       ∙ cond-false (ltb 3 unit) (refuse NoSuchUnit s) (transferring t unit x s) n.1
       ∙ ap (λ (i : ℕ). transferring t i x s) (sym n.0)
       ∙ asks-wanted t (number_of at) s x
 
-  pub refused : (r : Refusal) → Err r ≡ wanted x → Is (state us k) (Err r) (apply (call.Transfer unit x) (state us k))
-  refused r e = is (state us k) (Err r) (apply (call.Transfer unit x) (state us k)) (refuse r (state us k)) (asked_of ∙ ap (asks t (number_of at) (state us k)) (sym e)) refl refl
+  pub refused : {r : Refusal} → Err r ≡ wanted x → Is (state us k) (Err r) (apply (call.Transfer unit x) (state us k))
+  refused {r = r} e = is (state us k) (Err r) (apply (call.Transfer unit x) (state us k)) (refuse r (state us k)) (asked_of ∙ ap (asks t (number_of at) (state us k)) (sym e)) refl refl
 
-  module _ (w : Wanted) (tasks : Tasks) (requests : Queues) (e : Ok w ≡ wanted x) (a b : Table) (y z : Task) where
+  module _ {w : Wanted} {a b : Table} {y z : Task} (tasks : Tasks) (requests : Queues) (e : Ok w ≡ wanted x) where
     pub granted : a ≡ stop (table k.tasks) → z ≡ record_in a t → y ≡ with_transfer w.kind w.bytes z → b ≡ change t (λ _. y) a → table tasks ≡ turn b
         → queues requests ≡ set (queues k.queues) (number_of at) (enqueue (record { task = t; size = w.size; moved = 0 }) (queue_at at k.queues))
         → Is (state_of us tasks k.waits k.cells requests k.clock) (Ok 0) (apply (call.Transfer unit x) (state us k))

@@ -30,6 +30,7 @@ use Rattle.tables.specs.Parts.{state_of}
 use Rattle.tables.specs.View.{state}
 use Rattle.transfers.proofs.Requested.{Is, is}
 use Rattle.queues.proofs.Everywhere.{low}
+use Rattle.tables.proofs.Stands.{First}
 
 -- what the code makes of a move: the unit, the record, and the outcome if the transfer has ended
 pub record Moves (m' : Medium) (y : Task) (outcome : Option Outcome) (v : Move) (x : Task) : Type 0 where
@@ -41,20 +42,20 @@ pub record Moves (m' : Medium) (y : Task) (outcome : Option Outcome) (v : Move) 
 
 none_of : {X : Type 0} (o : Option X) → false ≡ is_some o → o ≡ None
 none_of None e = refl
-none_of (Some x) e = let z : ◌≡◌ {A = ℕ} 0 1 = cc in absurd (omega arith)
+none_of (Some x) e = cc
 
 some_of : {X : Type 0} (o : Option X) → true ≡ is_some o → (x : X) × (o ≡ Some x)
-some_of None e = let z : ◌≡◌ {A = ℕ} 0 1 = cc in absurd (omega arith)
+some_of None e = cc
 some_of (Some x) e = (x, refl)
 
 -- a transfer that goes on has one more byte moved
 out-on : (r : Request) (bytes : List ℕ) (m : Medium) (told : Result (Unit {0}) UnitFault) → (move_out r bytes m told).ends ≡ None → (move_out r bytes m told).moved ≡ r.moved + 1
 out-on r bytes m (Ok x) e = refl
-out-on r bytes m (Err f) e = let z : ◌≡◌ {A = ℕ} 0 1 = cc in absurd (omega arith)
+out-on r bytes m (Err f) e = cc
 
 in_on : (lines : Bool) (r : Request) (bytes : List ℕ) (m : Medium) (told : Result ℕ UnitFault) → (move_in lines r bytes m told).ends ≡ None → (move_in lines r bytes m told).moved ≡ r.moved + 1
 in_on lines r bytes m (Ok x) e = refl
-in_on lines r bytes m (Err f) e = let z : ◌≡◌ {A = ℕ} 0 1 = cc in absurd (omega arith)
+in_on lines r bytes m (Err f) e = cc
 
 move-on : (k : Option TransferKind) (r : Request) (bytes : List ℕ) (m : Medium) → (move k r bytes m).ends ≡ None → (move k r bytes m).moved ≡ r.moved + 1
 move-on k r bytes m = by (writes k)
@@ -65,7 +66,10 @@ move-on k r bytes m = by (writes k)
 
 -- Services --------------------------------------------------------------------------------------------------------------------
 
-module _ (k : Tables) (unit : UnitNumber) (m : Medium) (us : List Medium) (four : length us ≡ 4) where
+-- the first request of a unit is moved on: the record x of its task becomes y, the unit, which meant m, means m', and b is the
+-- table with y
+module _ {k : Tables} {unit : UnitNumber} {r : Request} {x y : Task} {m' : Medium} {ends : Option Outcome} {b : Table} (m : Medium) (us : List Medium) (four : length us ≡ 4)
+    (f : First k unit r) (at : x ≡ record_in (table k.tasks) r.task) (h : Moves m' y ends (move_for x r m) x) (to : b ≡ change r.task (λ _. y) (table k.tasks)) where
   -- the state, with that unit
   abbrev over : Medium → State
   over m = state (set us (number_of unit) m) k
@@ -73,46 +77,44 @@ module _ (k : Tables) (unit : UnitNumber) (m : Medium) (us : List Medium) (four 
   serves : apply (Service (number_of unit)) (over m) ≡ serving (number_of unit) (queue_at unit k.queues) (over m)
   serves = let l = low unit in cond-false (ltb 3 (number_of unit)) (refuse NoSuchUnit (over m)) (serving (number_of unit) (queue_at unit k.queues) (over m)) (grind (arith, nat_tests))
 
-  module _ (r : Request) (x y : Task) (m' : Medium) (ends : Option Outcome) (b : Table) (tasks : Tasks) (requests : Queues)
-      (starts : queue_at unit k.queues ≡ r ∷ rest (queue_at unit k.queues)) (at : x ≡ record_in (table k.tasks) r.task) (h : Moves m' y ends (move_for x r m) x) (to : b ≡ change r.task (λ _. y) (table k.tasks)) where
-    abbrev u : ℕ
-    u = number_of unit
+  abbrev u : ℕ
+  u = number_of unit
 
-    abbrev v : Move
-    v = move_for x r m
+  abbrev v : Move
+  v = move_for x r m
 
-    abbrev rs : List Request
-    rs = rest (queue_at unit k.queues)
+  abbrev rs : List Request
+  rs = rest (queue_at unit k.queues)
 
-    by_move : apply (Service u) (over m) ≡ moving u r rs v v.ends (over m)
-    by_move =
-        serves ∙ ap (λ (q : List Request). serving u q (over m)) starts
-        ∙ ap (λ (d : Medium). moving u r rs (move_for (record_in (table k.tasks) r.task) r d) (move_for (record_in (table k.tasks) r.task) r d).ends (over m)) (get_or-set_same us u m (fresh [] 0 0) (let l = low unit in omega arith))
-        ∙ ap (λ (i : Task). moving u r rs (move_for i r m) (move_for i r m).ends (over m)) (sym at)
+  by_move : apply (Service u) (over m) ≡ moving u r rs v v.ends (over m)
+  by_move =
+      serves ∙ ap (λ (q : List Request). serving u q (over m)) f.starts
+      ∙ ap (λ (d : Medium). moving u r rs (move_for (record_in (table k.tasks) r.task) r d) (move_for (record_in (table k.tasks) r.task) r d).ends (over m)) (get_or-set_same us u m (fresh [] 0 0) (let l = low unit in omega arith))
+      ∙ ap (λ (i : Task). moving u r rs (move_for i r m) (move_for i r m).ends (over m)) (sym at)
 
-    units_are : set us u m' ≡ set (set us u m) u v.unit
-    units_are = ap (set us u) h.medium ∙ sym (set-set us u m v.unit)
+  units_are : set us u m' ≡ set (set us u m) u v.unit
+  units_are = ap (set us u) h.medium ∙ sym (set-set us u m v.unit)
 
-    pub went_on : is_some ends ≡ false → table tasks ≡ b → queues requests ≡ set (queues k.queues) u (advanced (queue_at unit k.queues))
-        → Is (state_of (set us u m') tasks k.waits k.cells requests k.clock) (Ok 0) (apply (Service u) (over m))
-    went_on l t q =
-        let n : v.ends ≡ None = sym h.ends ∙ none_of ends (sym l) in
-        let p : y ≡ with_bytes v.bytes (record_in (table k.tasks) r.task) = h.task ∙ ap (λ (o : Option Outcome). moved.ending v.bytes o x) n ∙ ap (with_bytes v.bytes) at in
-        let a : table tasks ≡ change r.task (with_bytes v.bytes) (table k.tasks) = t ∙ to ∙ change_as r.task (with_bytes v.bytes) y (table k.tasks) p in
-        let c : queues requests ≡ set (queues k.queues) u ((record { task = r.task; size = r.size; moved = v.moved }) ∷ rs) =
-        q ∙ ap (λ (z : List Request). set (queues k.queues) u (advanced z)) starts ∙ ap (λ (i : ℕ). set (queues k.queues) u ((record { task = r.task; size = r.size; moved = i }) ∷ rs)) (sym (move-on x.kind r x.bytes m n)) in
-        let w = units_are in
-        is (state_of (set us u m') tasks k.waits k.cells requests k.clock) (Ok 0) (apply (Service u) (over m)) (going_on u r rs v (over m))
-        (by_move ∙ ap (λ (o : Option Outcome). moving u r rs v o (over m)) n) (cc) refl
+  pub went_on : (tasks : Tasks) (requests : Queues) → is_some ends ≡ false → table tasks ≡ b → queues requests ≡ set (queues k.queues) u (advanced (queue_at unit k.queues))
+      → Is (state_of (set us u m') tasks k.waits k.cells requests k.clock) (Ok 0) (apply (Service u) (over m))
+  went_on tasks requests l t q =
+      let n : v.ends ≡ None = sym h.ends ∙ none_of ends (sym l) in
+      let p : y ≡ with_bytes v.bytes (record_in (table k.tasks) r.task) = h.task ∙ ap (λ (o : Option Outcome). moved.ending v.bytes o x) n ∙ ap (with_bytes v.bytes) at in
+      let a : table tasks ≡ change r.task (with_bytes v.bytes) (table k.tasks) = t ∙ to ∙ change_as r.task (with_bytes v.bytes) y (table k.tasks) p in
+      let c : queues requests ≡ set (queues k.queues) u ((record { task = r.task; size = r.size; moved = v.moved }) ∷ rs) =
+      q ∙ ap (λ (z : List Request). set (queues k.queues) u (advanced z)) f.starts ∙ ap (λ (i : ℕ). set (queues k.queues) u ((record { task = r.task; size = r.size; moved = i }) ∷ rs)) (sym (move-on x.kind r x.bytes m n)) in
+      let w = units_are in
+      is (state_of (set us u m') tasks k.waits k.cells requests k.clock) (Ok 0) (apply (Service u) (over m)) (going_on u r rs v (over m))
+      (by_move ∙ ap (λ (o : Option Outcome). moving u r rs v o (over m)) n) (cc) refl
 
-    pub was_last : is_some ends ≡ true → table tasks ≡ turn (release r.task b) → queues requests ≡ set (queues k.queues) u rs
-        → Is (state_of (set us u m') tasks k.waits k.cells requests k.clock) (Ok 1) (apply (Service u) (over m))
-    was_last l t q =
-        let some = some_of v.ends (sym l ∙ ap is_some h.ends) in
-        let o = some.0 in
-        let p : y ≡ with_outcome v.bytes o (record_in (table k.tasks) r.task) = h.task ∙ ap (λ (i : Option Outcome). moved.ending v.bytes i x) some.1 ∙ ap (with_outcome v.bytes o) at in
-        let a : table tasks ≡ turn (release r.task (change r.task (with_outcome v.bytes o) (table k.tasks))) =
-        t ∙ ap (λ (i : Table). turn (release r.task i)) (to ∙ change_as r.task (with_outcome v.bytes o) y (table k.tasks) p) in
-        let w = units_are in
-        is (state_of (set us u m') tasks k.waits k.cells requests k.clock) (Ok 1) (apply (Service u) (over m)) (ending u r rs v o (over m))
-        (by_move ∙ ap (λ (i : Option Outcome). moving u r rs v i (over m)) some.1) (cc) refl
+  pub was_last : (tasks : Tasks) (requests : Queues) → is_some ends ≡ true → table tasks ≡ turn (release r.task b) → queues requests ≡ set (queues k.queues) u rs
+      → Is (state_of (set us u m') tasks k.waits k.cells requests k.clock) (Ok 1) (apply (Service u) (over m))
+  was_last tasks requests l t q =
+      let some = some_of v.ends (sym l ∙ ap is_some h.ends) in
+      let o = some.0 in
+      let p : y ≡ with_outcome v.bytes o (record_in (table k.tasks) r.task) = h.task ∙ ap (λ (i : Option Outcome). moved.ending v.bytes i x) some.1 ∙ ap (with_outcome v.bytes o) at in
+      let a : table tasks ≡ turn (release r.task (change r.task (with_outcome v.bytes o) (table k.tasks))) =
+      t ∙ ap (λ (i : Table). turn (release r.task i)) (to ∙ change_as r.task (with_outcome v.bytes o) y (table k.tasks) p) in
+      let w = units_are in
+      is (state_of (set us u m') tasks k.waits k.cells requests k.clock) (Ok 1) (apply (Service u) (over m)) (ending u r rs v o (over m))
+      (by_move ∙ ap (λ (i : Option Outcome). moving u r rs v i (over m)) some.1) (cc) refl

@@ -25,9 +25,9 @@ module _ (reading : ℕ) where
     pub waits : later_than reading ws ≡ later_than reading ws₀
     pub told : n + length (due ws) ≡ length (due ws₀)
 
-  module _ (a₀ : Table) (ws₀ : List ClockWait) (a : Table) (ws : List ClockWait) (n : ℕ) (h : Releasing a₀ ws₀ a ws n) (vs : List ClockWait) where
-    pub releasing-more : (t : ℕ) (b : Table) → ReleasedOne reading (Some t) ws vs → b ≡ release t a → Releasing a₀ ws₀ b vs (n + 1)
-    releasing-more t b r to = let told = h.told in record {
+  module _ {a₀ : Table} {ws₀ : List ClockWait} {a : Table} {ws : List ClockWait} {n : ℕ} {vs : List ClockWait} (h : Releasing a₀ ws₀ a ws n) where
+    pub releasing-more : {t : ℕ} {b : Table} → ReleasedOne reading (Some t) ws vs → b ≡ release t a → Releasing a₀ ws₀ b vs (n + 1)
+    releasing-more {t = t} {b = b} r to = let told = h.told in record {
       spread = subst (λ (d : Table). Spread d (sleepers vs)) (sym to) (spread-release t a (sleepers ws) (sleepers vs) h.spread r.counts);
       table = ap (release_all (due vs)) to ∙ sym (ap (λ ts. release_all ts a) r.due) ∙ h.table;
       waits = r.later ∙ h.waits;

@@ -42,7 +42,7 @@ spread-still t f a b c m x y to is s =
 
 pub none_there : {A : Type 0} (xs : List A) → None ≡ first xs → xs ≡ []
 none_there [] f = refl
-none_there (x ∷ xs) f = let z : ◌≡◌ {A = ℕ} 0 1 = cc in absurd (omega arith)
+none_there (x ∷ xs) f = cc
 
 -- The receivers at a cell -----------------------------------------------------------------------------------------------------
 
@@ -52,9 +52,9 @@ pub record Handing (c m : ℕ) (a₀ : Table) (x₀ : Cells) (a : Table) (x : Ce
   pub table : hand_all m (tasks_at c x.waits) a ≡ hand_all m (tasks_at c x₀.waits) a₀
   pub cells : empty_cell c x ≡ empty_cell c x₀
 
-module _ (c m : ℕ) (a₀ : Table) (x₀ : Cells) (a : Table) (x : Cells) (h : Handing c m a₀ x₀ a x) (y : Cells) (is : y ≡ leave_first c x) where
-  pub handing-more : (t : ℕ) (b : Table) → EndedOne c (Some t) x.waits y.waits → b ≡ hand m t a → Handing c m a₀ x₀ b y
-  handing-more t b e to = record {
+module _ {c m : ℕ} {a₀ : Table} {x₀ : Cells} {a : Table} {x y : Cells} (h : Handing c m a₀ x₀ a x) (is : y ≡ leave_first c x) where
+  pub handing-more : {t : ℕ} {b : Table} → EndedOne c (Some t) x.waits y.waits → b ≡ hand m t a → Handing c m a₀ x₀ b y
+  handing-more {t = t} {b = b} e to = record {
     spread = subst (λ (d : Table). Spread d (waiters y.waits)) (sym to) (spread-hand t a (waiters x.waits) (waiters y.waits) m h.spread e.counts);
     table = ap (hand_all m (tasks_at c y.waits)) to ∙ sym (ap (λ ts. hand_all m ts a) e.here) ∙ h.table;
     cells = ap (empty_cell c) is ∙ ap (λ ws. record { words = x.words; waits = ws }) (sym (ap (λ (z : Cells). elsewhere c z.waits) is) ∙ e.others) ∙ h.cells;

@@ -1,13 +1,10 @@
 -- The caller is one of the records and waits nowhere; what it asks for is what the rules ask for.
-use Rattle.std.proofs.Common.{List, Ok, Err, refl, ap, ◌∙◌, arith}
+use Rattle.std.proofs.Common.{List, Ok, Err, refl, ap, ◌∙◌, arith, rules}
 use Rattle.calls.specs.Calls.{transfer_with}
 use Rattle.calls.specs.declared.call.Call.TheVariants.{Transfer}
 use Rattle.rules.specs.Rules.{apply}
 use Rattle.std.proofs.lemmas.Result.{err_from_is_err_and}
-use Rattle.tasks.specs.Parts.{as_task}
-use Rattle.tasks.specs.View.{table}
 use Rattle.unit.specs.Medium.{Medium}
-use Rattle.moving.specs.Wanted.{as_wanted}
 use Rattle.tables.specs.Parts.{blanks, state_of}
 use Rattle.tables.specs.View.{state}
 use Rattle.tables.proofs.Stands.{kept, left}
@@ -18,9 +15,10 @@ use Rattle.transfers.proofs.asking.transfer.Goals.{After-turn, In_err-asked, at-
 -- the refusal, as the rules see it
 not_done : (c : In_err-asked) (us : List Medium)
     → Is (state us c.args.tables.now) (Err c.in_err-asked.field-0.0) (apply (Transfer c.args.unit (transfer_with (λ t. t.now) c.args.transfer)) (state us c.args.tables.now))
-not_done c us =
-    refused c.args.tables.now c.in_ok-caller.caller c.args.unit c.in_ok-at.at (transfer_with (λ t. t.now) c.args.transfer) c.in_ok-caller.ensures.runs c.in_ok-at.ensures us
-    c.in_err-asked.field-0.0 c.in_err-asked.ensures
+not_done c us = refused c.args.unit (transfer_with (λ t. t.now) c.args.transfer) c.in_ok-caller.ensures c.in_ok-at.ensures us c.in_err-asked.ensures
+
+pub returns-in_err-at : goal.returns-in_err-at
+returns-in_err-at c = record { state = λ us. search rules; answer = λ us. search rules; room = (refl, refl, refl) }
 
 pub returns-in_err-asked : goal.returns-in_err-asked
 returns-in_err-asked c =
@@ -44,9 +42,7 @@ done : (c : After-turn) (us : List Medium)
     → Is (state_of us c.turn.new.self c.args.tables.now.waits c.args.tables.now.cells c.join.new.self c.args.tables.now.clock) (Ok 0)
     (apply (Transfer c.args.unit (transfer_with (λ t. t.now) c.args.transfer)) (state us c.args.tables.now))
 done c us =
-    let w = as_wanted c.in_ok-asked.asked in
-    granted c.args.tables.now c.in_ok-caller.caller c.args.unit c.in_ok-at.at (transfer_with (λ t. t.now) c.args.transfer) c.in_ok-caller.ensures.runs c.in_ok-at.ensures us
-    w c.turn.new.self c.join.new.self c.in_ok-asked.ensures (table c.stop.new.self) (table c.replace.new.self) (as_task c.begun-task.result) (as_task c.task.result.now)
+    granted c.args.unit (transfer_with (λ t. t.now) c.args.transfer) c.in_ok-caller.ensures c.in_ok-at.ensures us c.turn.new.self c.join.new.self c.in_ok-asked.ensures
     c.stop.ensures c.task.ensures c.begun-task.ensures c.replace.ensures c.turn.ensures c.join.ensures.queues
 
 pub returns : goal.returns

@@ -52,20 +52,16 @@ on : (g : given.Over) (c : After-advance g) (us : List Medium) → length us ≡
     → Is (state_of (set us (number_of c.args.unit) (g.U.Unit.medium c.one_move-outcome.new.device)) c.replace.new.self c.args.tables.now.waits c.args.tables.now.cells c.advance.new.self c.args.tables.now.clock)
     (Ok 0) (apply (Service (number_of c.args.unit)) (state (set us (number_of c.args.unit) (g.U.Unit.medium c.args.device.now)) c.args.tables.now))
 on g c us four =
-    went_on c.args.tables.now c.args.unit (g.U.Unit.medium c.args.device.now) us four
-    (as_request c.in_ok-first.first) (as_task c.task.result.now) (as_task c.one_move-outcome.new.task) (g.U.Unit.medium c.one_move-outcome.new.device) c.one_move-outcome.result
-    (table c.replace.new.self) c.replace.new.self c.advance.new.self (found g (at-invariant_of-tables-2 g c).In_ok-first).starts c.task.ensures (move-is g (at-invariant_of-tables-2 g c).After-replace) c.replace.ensures
-    (sym c.is_some.ensures ∙ c.if-is_some.false) refl c.advance.ensures.queues
+    let w = at-invariant_of-tables-2 g c in
+    went_on (g.U.Unit.medium c.args.device.now) us four (found g w.In_ok-first) c.task.ensures (move-is g w.After-replace) c.replace.ensures c.replace.new.self c.advance.new.self (sym c.is_some.ensures ∙ c.if-is_some.false) refl c.advance.ensures.queues
 
 -- the transfer ends
 last : (g : given.Over) (c : After-finish g) (us : List Medium) → length us ≡ 4
     → Is (state_of (set us (number_of c.args.unit) (g.U.Unit.medium c.one_move-outcome.new.device)) c.finish.new.tasks c.args.tables.now.waits c.args.tables.now.cells c.pop.new.self c.args.tables.now.clock)
     (Ok 1) (apply (Service (number_of c.args.unit)) (state (set us (number_of c.args.unit) (g.U.Unit.medium c.args.device.now)) c.args.tables.now))
 last g c us four =
-    was_last c.args.tables.now c.args.unit (g.U.Unit.medium c.args.device.now) us four
-    (as_request c.in_ok-first.first) (as_task c.task.result.now) (as_task c.one_move-outcome.new.task) (g.U.Unit.medium c.one_move-outcome.new.device) c.one_move-outcome.result
-    (table c.replace.new.self) c.finish.new.tasks c.pop.new.self (found g (at-invariant_of-tables g c).In_ok-first).starts c.task.ensures (move-is g (at-invariant_of-tables g c).After-replace) c.replace.ensures
-    (sym c.is_some.ensures ∙ c.if-is_some.true) c.finish.ensures c.pop.ensures.queues
+    let w = at-invariant_of-tables g c in
+    was_last (g.U.Unit.medium c.args.device.now) us four (found g w.In_ok-first) c.task.ensures (move-is g w.After-replace) c.replace.ensures c.finish.new.tasks c.pop.new.self (sym c.is_some.ensures ∙ c.if-is_some.true) c.finish.ensures c.pop.ensures.queues
 
 pub returns-then-is_some : goal.returns-then-is_some
 returns-then-is_some g c = record { state = λ us four. (last g (at-returns-then-is_some g c).After-finish us four).state; answer = λ us four. (last g (at-returns-then-is_some g c).After-finish us four).answer; room = (refl, refl, c.pop.ensures.room) }

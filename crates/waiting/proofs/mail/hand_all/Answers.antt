@@ -21,13 +21,12 @@ loop-receiver-smaller c = omega (arith, ap length c.in-Some.ensures.laws.here)
 pub loop-receiver-preserved : goal.loop-receiver-preserved
 loop-receiver-preserved c =
     let l = c.loop-receiver in let k = c.in-Some.ensures in (
-      handing-more c.args.cell c.args.message (table c.args.tasks.now) (cells c.args.cells.now) (table l.tasks) (cells l.cells) l.invariant.0
-          (cells c.take_first_at.new.self) k.cells c.in-Some.receiver (table c.hand.new.self) k.laws c.hand.ensures,
+      handing-more l.invariant.0 k.cells k.laws c.hand.ensures,
       k.room ∙ l.invariant.1,
     )
 
 pub returns : goal.returns
 returns c =
     let l = c.loop-receiver in let k = c.in_default.ensures in
-    let h = handing-done c.args.cell c.args.message (table c.args.tasks.now) (cells c.args.cells.now) (table l.tasks) (cells l.cells) l.invariant.0 (cells c.take_first_at.new.self) k.cells k.laws k.first in
+    let h = handing-done l.invariant.0 k.cells k.laws k.first in
     record { table = h.0; cells = h.1; room = k.room ∙ l.invariant.1 }

@@ -28,14 +28,13 @@ loop-task-smaller c = omega (arith, ap length c.in-Some.ensures.laws.due)
 
 pub loop-task-preserved : goal.loop-task-preserved
 loop-task-preserved c =
-    let a = c.args in let l = c.loop-task in let k = c.in-Some.ensures in (
-      releasing-more a.reading (table a.tasks.now) (sleeping a.waits.now) (table l.tasks) (sleeping l.waits) l.count l.invariant.0
-          (sleeping c.pop_due.new.self) c.in-Some.task (table c.release.new.self) k.laws c.release.ensures,
+    let l = c.loop-task in let k = c.in-Some.ensures in (
+      releasing-more c.args.reading l.invariant.0 k.laws c.release.ensures,
       k.room ∙ l.invariant.1,
     )
 
 pub returns : goal.returns
 returns c =
-    let a = c.args in let l = c.loop-task in let k = c.in_default.ensures in
-    let h = releasing-done a.reading (table a.tasks.now) (sleeping a.waits.now) (table l.tasks) (sleeping l.waits) l.count l.invariant.0 (sleeping c.pop_due.new.self) k.laws k.first in
+    let l = c.loop-task in let k = c.in_default.ensures in
+    let h = releasing-done c.args.reading l.invariant.0 k.laws k.first in
     record { table = h.0; waits = h.1; count = h.2; room = k.room ∙ l.invariant.1 }
