@@ -119,6 +119,7 @@ impl<T: Drop> Transfer<T> {
         self.map_text(|_| text)
     }
 
+    // Which transfer it is. That loses its text and length, so it is no conversion.
     pub fn kind(&self) -> TransferKind
         ensures { result ≡ kind_of self.now }
     {

@@ -33,10 +33,7 @@ fn print_words(rt: &impl Print, bytes: &[u8]) -> io::Result<()> {
 
 // Whether a call, written back, comes out as the bytes that it was read from.
 fn comes_out_the_same(call: Call<&[u8]>, from: &[u8], room: &mut [u8]) -> bool {
-    match write_call(call, room) {
-        Ok(size) => room.get(..size) == Some(from),
-        Err(_) => false,
-    }
+    write_call(call, room).is_ok_and(|size| room.get(..size) == Some(from))
 }
 
 // Prints the line of one call, which was read from `words`.
