@@ -3,7 +3,7 @@ use Rattle.tasks.proofs.Tables.{stopped}
 use Rattle.tasks.proofs.Tasks.stop.Goals as goal
 
 pub invariant_of-self : goal.invariant_of-self
-invariant_of-self c = let n = stopped c.args.self.now in record { ends = n.ends; placed = n.placed }
+invariant_of-self c = (stopped c.self.inside c.self.invariant).kept
 
 pub returns : goal.returns
-returns c = (stopped c.args.self.now).is
+returns c = rw (← c.self.view_is) (stopped c.self.inside c.self.invariant).is

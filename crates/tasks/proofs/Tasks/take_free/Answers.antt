@@ -3,10 +3,7 @@ use Rattle.tasks.proofs.Tables.{free-taken}
 use Rattle.tasks.proofs.Tasks.take_free.Goals as goal
 
 pub invariant_of-self : goal.invariant_of-self
-invariant_of-self c =
-    let u = c.take_first in
-    let n = free-taken c.args.self.now u.new.head u.ensures.ends u.ensures.rest in
-    record { ends = n.ends; placed = n.placed }
+invariant_of-self c = let u = c.take_first in (free-taken c.self.inside c.self.invariant u.new.head u.ensures.ends u.ensures.rest).kept
 
 pub returns : goal.returns
-returns c = let u = c.take_first in (free-taken c.args.self.now u.new.head u.ensures.ends u.ensures.rest).is
+returns c = let u = c.take_first in rw (← c.self.view_is) (free-taken c.self.inside c.self.invariant u.new.head u.ensures.ends u.ensures.rest).is

@@ -3,12 +3,7 @@ use Rattle.tasks.proofs.Tables.{unsuspended}
 use Rattle.tasks.proofs.Tasks.unsuspend.Goals as goal
 
 pub invariant_of-self : goal.invariant_of-self
-invariant_of-self c =
-    let u = c.take_out in
-    let n = unsuspended c.args.self.now c.args.t u.new.self u.new.head u.ensures.records u.ensures.links in
-    record { ends = n.ends; placed = n.placed }
+invariant_of-self c = let u = c.take_out in (unsuspended c.self.inside c.self.invariant c.args.t u.new.self u.new.head u.ensures.records u.ensures.links).kept
 
 pub returns : goal.returns
-returns c =
-    let u = c.take_out in
-    (unsuspended c.args.self.now c.args.t u.new.self u.new.head u.ensures.records u.ensures.links).is
+returns c = let u = c.take_out in rw (← c.self.view_is) (unsuspended c.self.inside c.self.invariant c.args.t u.new.self u.new.head u.ensures.records u.ensures.links).is

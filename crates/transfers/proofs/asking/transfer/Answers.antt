@@ -5,7 +5,6 @@ use Rattle.calls.specs.declared.call.Call.TheVariants.{Transfer}
 use Rattle.rules.specs.Rules.{apply}
 use Rattle.std.proofs.lemmas.Result.{err_from_is_err_and}
 use Rattle.tasks.specs.Parts.{as_task}
-use Rattle.tasks.specs.View.{table}
 use Rattle.unit.specs.Medium.{Medium}
 use Rattle.moving.specs.Wanted.{as_wanted}
 use Rattle.tables.specs.Parts.{blanks, state_of}
@@ -46,7 +45,7 @@ done : (c : After-turn) (us : List Medium)
 done c us =
     let w = as_wanted c.in_ok-asked.asked in
     granted c.args.tables.now c.in_ok-caller.caller c.args.unit c.in_ok-at.at (transfer_with (λ t. t.now) c.args.transfer) c.in_ok-caller.ensures.runs c.in_ok-at.ensures us
-    w c.turn.new.self c.join.new.self c.in_ok-asked.ensures (table c.stop.new.self) (table c.replace.new.self) (as_task c.begun-task.result) (as_task c.task.result.now)
+    w c.turn.new.self c.join.new.self c.in_ok-asked.ensures c.stop.new.self c.replace.new.self (as_task c.begun-task.result) (as_task c.task.result.now)
     c.stop.ensures c.task.ensures c.begun-task.ensures c.replace.ensures c.turn.ensures c.join.ensures.queues
 
 pub returns : goal.returns

@@ -8,7 +8,6 @@ use Rattle.queues.specs.View.{as_request}
 use Rattle.rules.specs.Rules.{apply}
 use Rattle.rules.specs.Sound.{fits}
 use Rattle.rules.specs.State.{Task}
-use Rattle.tasks.specs.View.{table}
 use Rattle.tasks.specs.Parts.{as_task}
 use Rattle.unit.specs.Medium.{Medium}
 use Rattle.moving.specs.Moved.{move_for}
@@ -39,7 +38,7 @@ advance-requires g c = λ r e. let f = (first_request c.args.tables.now c.args.u
 
 pub finish-requires : goal.finish-requires
 finish-requires g c =
-    let h = put c.args.tables.now c.args.unit (as_request c.in_ok-first.first) (as_task c.one_move-outcome.new.task) (table c.replace.new.self) (found g (at-finish-requires g c).In_ok-first) c.replace.ensures in
+    let h = put c.args.tables.now c.args.unit (as_request c.in_ok-first.first) (as_task c.one_move-outcome.new.task) c.replace.new.self (found g (at-finish-requires g c).In_ok-first) c.replace.ensures in
     record { within = h.within; nowhere = h.nowhere }
 
 -- what the move came to
@@ -54,7 +53,7 @@ on : (g : given.Over) (c : After-advance g) (us : List Medium) → length us ≡
 on g c us four =
     went_on c.args.tables.now c.args.unit (g.U.Unit.medium c.args.device.now) us four
     (as_request c.in_ok-first.first) (as_task c.task.result.now) (as_task c.one_move-outcome.new.task) (g.U.Unit.medium c.one_move-outcome.new.device) c.one_move-outcome.result
-    (table c.replace.new.self) c.replace.new.self c.advance.new.self (found g (at-invariant_of-tables-2 g c).In_ok-first).starts c.task.ensures (move-is g (at-invariant_of-tables-2 g c).After-replace) c.replace.ensures
+    c.replace.new.self c.replace.new.self c.advance.new.self (found g (at-invariant_of-tables-2 g c).In_ok-first).starts c.task.ensures (move-is g (at-invariant_of-tables-2 g c).After-replace) c.replace.ensures
     (sym c.is_some.ensures ∙ c.if-is_some.false) refl c.advance.ensures.queues
 
 -- the transfer ends
@@ -64,7 +63,7 @@ last : (g : given.Over) (c : After-finish g) (us : List Medium) → length us �
 last g c us four =
     was_last c.args.tables.now c.args.unit (g.U.Unit.medium c.args.device.now) us four
     (as_request c.in_ok-first.first) (as_task c.task.result.now) (as_task c.one_move-outcome.new.task) (g.U.Unit.medium c.one_move-outcome.new.device) c.one_move-outcome.result
-    (table c.replace.new.self) c.finish.new.tasks c.pop.new.self (found g (at-invariant_of-tables g c).In_ok-first).starts c.task.ensures (move-is g (at-invariant_of-tables g c).After-replace) c.replace.ensures
+    c.replace.new.self c.finish.new.tasks c.pop.new.self (found g (at-invariant_of-tables g c).In_ok-first).starts c.task.ensures (move-is g (at-invariant_of-tables g c).After-replace) c.replace.ensures
     (sym c.is_some.ensures ∙ c.if-is_some.true) c.finish.ensures c.pop.ensures.queues
 
 pub returns-then-is_some : goal.returns-then-is_some

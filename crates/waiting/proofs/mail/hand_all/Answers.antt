@@ -1,6 +1,5 @@
 -- Each receiver is nowhere in the table while its wait ends.
 use Rattle.std.proofs.Common.{length, refl, ap, ◌∙◌, arith}
-use Rattle.tasks.specs.View.{table}
 use Rattle.cells.specs.View.{cells}
 use Rattle.rules.specs.Records.{waiters}
 use Rattle.waiting.proofs.Handed.{away, handing-done, handing-more}
@@ -12,7 +11,7 @@ loop-receiver-init c = (record { spread = c.requires; table = refl; cells = refl
 pub hand-requires : goal.hand-requires
 hand-requires c =
     let l = c.loop-receiver in
-    let h = away c.in-Some.receiver (table l.tasks) (waiters (cells l.cells).waits) (waiters (cells c.take_first_at.new.self).waits) l.invariant.0.spread c.in-Some.ensures.laws.counts in
+    let h = away c.in-Some.receiver l.tasks (waiters (cells l.cells).waits) (waiters (cells c.take_first_at.new.self).waits) l.invariant.0.spread c.in-Some.ensures.laws.counts in
     record { within = h.within; nowhere = h.nowhere }
 
 pub loop-receiver-smaller : goal.loop-receiver-smaller
@@ -21,13 +20,13 @@ loop-receiver-smaller c = omega (arith, ap length c.in-Some.ensures.laws.here)
 pub loop-receiver-preserved : goal.loop-receiver-preserved
 loop-receiver-preserved c =
     let l = c.loop-receiver in let k = c.in-Some.ensures in (
-      handing-more c.args.cell c.args.message (table c.args.tasks.now) (cells c.args.cells.now) (table l.tasks) (cells l.cells) l.invariant.0
-          (cells c.take_first_at.new.self) k.cells c.in-Some.receiver (table c.hand.new.self) k.laws c.hand.ensures,
+      handing-more c.args.cell c.args.message c.args.tasks.now (cells c.args.cells.now) l.tasks (cells l.cells) l.invariant.0
+          (cells c.take_first_at.new.self) k.cells c.in-Some.receiver c.hand.new.self k.laws c.hand.ensures,
       k.room ∙ l.invariant.1,
     )
 
 pub returns : goal.returns
 returns c =
     let l = c.loop-receiver in let k = c.in_default.ensures in
-    let h = handing-done c.args.cell c.args.message (table c.args.tasks.now) (cells c.args.cells.now) (table l.tasks) (cells l.cells) l.invariant.0 (cells c.take_first_at.new.self) k.cells k.laws k.first in
+    let h = handing-done c.args.cell c.args.message c.args.tasks.now (cells c.args.cells.now) l.tasks (cells l.cells) l.invariant.0 (cells c.take_first_at.new.self) k.cells k.laws k.first in
     record { table = h.0; cells = h.1; room = k.room ∙ l.invariant.1 }

@@ -2,7 +2,6 @@
 use Rattle.std.proofs.Common.{length, refl, ap, ◌∙◌, arith}
 use Rattle.clock.specs.View.{sleeping}
 use Rattle.rules.specs.Records.{sleepers}
-use Rattle.tasks.specs.View.{table}
 use Rattle.waiting.proofs.Handed.{away}
 use Rattle.waiting.proofs.Due.{due-few, releasing-done, releasing-more}
 use Rattle.waiting.proofs.timing.release_due.Goals as goal
@@ -13,7 +12,7 @@ loop-task-init c = (record { spread = c.requires.spread; table = refl; waits = r
 pub release-requires : goal.release-requires
 release-requires c =
     let l = c.loop-task in
-    let h = away c.in-Some.task (table l.tasks) (sleepers (sleeping l.waits)) (sleepers (sleeping c.pop_due.new.self)) l.invariant.0.spread c.in-Some.ensures.laws.counts in
+    let h = away c.in-Some.task l.tasks (sleepers (sleeping l.waits)) (sleepers (sleeping c.pop_due.new.self)) l.invariant.0.spread c.in-Some.ensures.laws.counts in
     record { within = h.within; nowhere = h.nowhere }
 
 pub overflow_add-count : goal.overflow_add-count
@@ -29,13 +28,13 @@ loop-task-smaller c = omega (arith, ap length c.in-Some.ensures.laws.due)
 pub loop-task-preserved : goal.loop-task-preserved
 loop-task-preserved c =
     let a = c.args in let l = c.loop-task in let k = c.in-Some.ensures in (
-      releasing-more a.reading (table a.tasks.now) (sleeping a.waits.now) (table l.tasks) (sleeping l.waits) l.count l.invariant.0
-          (sleeping c.pop_due.new.self) c.in-Some.task (table c.release.new.self) k.laws c.release.ensures,
+      releasing-more a.reading a.tasks.now (sleeping a.waits.now) l.tasks (sleeping l.waits) l.count l.invariant.0
+          (sleeping c.pop_due.new.self) c.in-Some.task c.release.new.self k.laws c.release.ensures,
       k.room ∙ l.invariant.1,
     )
 
 pub returns : goal.returns
 returns c =
     let a = c.args in let l = c.loop-task in let k = c.in_default.ensures in
-    let h = releasing-done a.reading (table a.tasks.now) (sleeping a.waits.now) (table l.tasks) (sleeping l.waits) l.count l.invariant.0 (sleeping c.pop_due.new.self) k.laws k.first in
+    let h = releasing-done a.reading a.tasks.now (sleeping a.waits.now) l.tasks (sleeping l.waits) l.count l.invariant.0 (sleeping c.pop_due.new.self) k.laws k.first in
     record { table = h.0; waits = h.1; count = h.2; room = k.room ∙ l.invariant.1 }
