@@ -12,7 +12,8 @@ use Rattle.std.proofs.lemmas.Bool.{and_parts, le-leb, leb-true}
 use Rattle.std.proofs.lemmas.Bool.Decides.{nat_tests}
 use Rattle.chain.specs.Lists.{count, first, one, rest}
 use Rattle.chain.proofs.Members.{count_none}
-use Rattle.tasks.specs.Parts.{Placed}
+use Rattle.tasks.specs.Parts.{Placed, Unplaced}
+use Rattle.tasks.proofs.Placing.{changed_unplaced}
 use Rattle.clock.specs.View as clock
 use Rattle.cells.specs.View as cells
 use Rattle.queues.specs.Four as queues
@@ -121,21 +122,14 @@ pub called : (k : Tables) (o : Option ℕ) → o ≡ k.tasks.running → MatchRe
 called k None e = record { refused = refl; idle = e }
 called k (Some t) e = caller k t e
 
--- the caller, which runs no longer, is nowhere
-pub record Left (t : ℕ) (a : Table) : Type 0 where
-  pub within : t < length a.tasks
-  pub nowhere : in_table t a ≡ 0
-
-stopped-size : (a : Table) → length (stop a).tasks ≡ length a.tasks
+-- the caller can be placed as soon as it runs no longer
+pub left : {k : Tables} {t : ℕ} {a : Table} → Caller k t → a ≡ stop k.tasks → Unplaced t a
 unfolding stop
-stopped-size a = refl
+left h is = rw is (record { within = h.within; nowhere = h.stopped })
 
-pub left : {k : Tables} {t : ℕ} {a : Table} → Caller k t → a ≡ stop k.tasks → Left t a
-left {k = k} {t = t} h is = let w = h.within in let z = stopped-size k.tasks in subst (Left t) (sym is) (record { within = omega arith; nowhere = h.stopped })
-
--- nor is it after a change of its record
-pub left-changed : {t : ℕ} {a b : Table} (f : Task → Task) → b ≡ change t f a → Left t a → Left t b
-left-changed {t = t} {a = a} f is h = let z = size-change t f a in let i = in_change t t f a in subst (Left t) (sym is) (record { within = (let w = h.within in omega arith); nowhere = i ∙ h.nowhere })
+-- and after a change of its record
+pub left-changed : {t : ℕ} {a b : Table} (f : Task → Task) → b ≡ change t f a → Unplaced t a → Unplaced t b
+left-changed f is h = rw is (changed_unplaced f h)
 
 -- Waits -----------------------------------------------------------------------------------------------------------------------
 
@@ -153,11 +147,10 @@ module _ (k : Tables) where
 
 -- Requests --------------------------------------------------------------------------------------------------------------------
 
--- the first request at a unit: its task is one of the records, stands nowhere in the table, and can have the request
+-- the first request at a unit: its task stands nowhere in the table and can have the request
 pub record First (k : Tables) (unit : UnitNumber) (r : Request) : Type 0 where
   pub starts : queues.queue_at unit k.queues ≡ r ∷ rest (queues.queue_at unit k.queues)
-  pub within : r.task < length k.tasks.tasks
-  pub nowhere : in_table r.task k.tasks ≡ 0
+  pub unplaced : Unplaced r.task k.tasks
   pub fit : fits (record_in k.tasks r.task) r ≡ true
 
 starts_with : (r : Request) (q : List Request) → Some r ≡ first q → q ≡ r ∷ rest q
@@ -174,17 +167,13 @@ first_request k unit r e =
     let w = one_same r.task in
     record {
       starts = s;
-      within = grind (arith, nat_tests);
-      nowhere = grind (arith, nat_tests);
+      unplaced = record { within = grind (arith, nat_tests); nowhere = grind (arith, nat_tests) };
       fit = ∥∥₁_elim k.stands.state (Bool-set _ _) (λ h. (and_parts (fits (record_in k.tasks r.task) r) (all_fit k.tasks (rest q)) (sym (ap (all_fit k.tasks) s) ∙ h.sound.requests (number_of unit))).0);
     }
 
 -- its record put anew, the task is nowhere still
-pub put : (k : Tables) (unit : UnitNumber) (r : Request) (y : Task) (a : Table) → First k unit r → a ≡ change r.task (λ _. y) k.tasks → Left r.task a
-put k unit r y a h is =
-    let z = size-change r.task (λ _. y) k.tasks in
-    let w = h.within in
-    subst (Left r.task) (sym is) (record { within = omega arith; nowhere = in_change r.task r.task (λ _. y) k.tasks ∙ h.nowhere })
+pub put : (k : Tables) (unit : UnitNumber) (r : Request) (y : Task) (a : Table) → First k unit r → a ≡ change r.task (λ _. y) k.tasks → Unplaced r.task a
+put k unit r y a h is = left-changed (λ _. y) is h.unplaced
 
 -- The start -------------------------------------------------------------------------------------------------------------------
 

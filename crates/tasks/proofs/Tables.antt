@@ -14,7 +14,7 @@ use Rattle.rules.specs.State.{Table, begin_table, blank, record_in, with_free, w
 use Rattle.rules.specs.Tables.{change, choose, link, put_free, stop, suspend, take_free, take_out, unsuspend}
 use Rattle.tasks.specs.declared.task.Task.{Task}
 use Rattle.tasks.specs.declared.Tasks.TheInside.{Inside}
-use Rattle.tasks.specs.Parts.{AllEnd, Intact, Placed, as_task, table_of}
+use Rattle.tasks.specs.Parts.{AllEnd, Intact, Placed, Unplaced, as_task, table_of}
 use Rattle.rules.specs.Sound.{in_table}
 use Rattle.tasks.proofs.Places.{in_link, in_put_free, in_suspend, rest-rising}
 use Rattle.tasks.proofs.Placing.{at_most_one, placed-begin, placed-change, placed-choose, placed-link, placed-put_free, placed-stop, placed-suspend, placed-take_free, placed-take_out, placed-unsuspend}
@@ -55,18 +55,18 @@ module _ (x : Inside) where
   record_is t y within is = ap as_task (is y) ∙ sym (get_or-map as_task (records x.links) t y blank (omega (arith, size, as_many x.links)))
 
   -- a record that is nowhere is on no chain
-  module _ (t : ℕ) (nowhere : in_table t (view x) ≡ 0) where
+  module _ (t : ℕ) (u : Unplaced t (view x)) where
     pub not-ready : has t (chain (nexts x.links) x.ready) ≡ false
     unfolding table_of in_table
-    not-ready = count_none t (chain (nexts x.links) x.ready) (omega arith)
+    not-ready = count_none t (chain (nexts x.links) x.ready) (let n = u.nowhere in omega arith)
 
     pub not-suspended : has t (chain (nexts x.links) x.suspended) ≡ false
     unfolding table_of in_table
-    not-suspended = count_none t (chain (nexts x.links) x.suspended) (omega arith)
+    not-suspended = count_none t (chain (nexts x.links) x.suspended) (let n = u.nowhere in omega arith)
 
     pub not_free : has t (chain (nexts x.links) x.free) ≡ false
     unfolding table_of in_table
-    not_free = count_none t (chain (nexts x.links) x.free) (omega arith)
+    not_free = count_none t (chain (nexts x.links) x.free) (let n = u.nowhere in omega arith)
 
 pub runs-is : (x : Inside) → x.running ≡ (view x).running
 unfolding table_of
@@ -109,13 +109,13 @@ module _ (x : Inside) (w : Kept x) (b : Links Task) (h : Option ℕ) (xs touched
 
 -- ── a record that is nowhere goes into a chain ──
 
-module _ (x : Inside) (w : Kept x) (t : ℕ) (within : t < length (view x).tasks) (nowhere : in_table t (view x) ≡ 0) where
+module _ (x : Inside) (w : Kept x) (t : ℕ) (un : Unplaced t (view x)) where
   module _ (b : Links Task) (h : Option ℕ) (recs : records b ≡ records x.links) where
     pub linked : Relinked (nexts x.links) (nexts b) h (join (rank_in (λ y. y.level) (records x.links)) t (chain (nexts x.links) x.ready)) (t ∷ chain (nexts x.links) x.ready)
         → Stand b x.free h x.suspended x.running (link t (view x))
     unfolding table_of link
     linked u =
-        let p = placed-link (view x) w.placed t within nowhere in
+        let p = placed-link (view x) w.placed t un in
         written-ready x w b h _ (t ∷ chain (nexts x.links) x.ready) recs u (link t (view x)) p
         (λ k. omega (arith, in_link k t (view x), at_most_one (link t (view x)) p k))
         (ap (λ (ls : List ℕ). with_ready (join (λ k. get_or ls k 0) t (chain (nexts x.links) x.ready)) (view x)) (levels (records x.links)))
@@ -124,7 +124,7 @@ module _ (x : Inside) (w : Kept x) (t : ℕ) (within : t < length (view x).tasks
         → Stand b x.free x.ready h x.running (suspend t (view x))
     unfolding table_of suspend
     suspended u =
-        let p = placed-suspend (view x) w.placed t within nowhere in
+        let p = placed-suspend (view x) w.placed t un in
         written-suspended x w b h _ (t ∷ chain (nexts x.links) x.suspended) recs u (suspend t (view x)) p
         (λ k. omega (arith, in_suspend k t (view x), at_most_one (suspend t (view x)) p k)) refl
 
@@ -132,7 +132,7 @@ module _ (x : Inside) (w : Kept x) (t : ℕ) (within : t < length (view x).tasks
         → Stand b h x.ready x.suspended x.running (put_free t (view x))
     unfolding table_of put_free
     freed u =
-        let p = placed-put_free (view x) w.placed t within nowhere in
+        let p = placed-put_free (view x) w.placed t un in
         written-free x w b h _ (t ∷ chain (nexts x.links) x.free) recs u (put_free t (view x)) p
         (λ k. omega (arith, in_put_free k t (view x), at_most_one (put_free t (view x)) p k)) refl
 

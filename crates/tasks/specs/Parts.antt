@@ -1,5 +1,5 @@
 -- What the parts of a task table stand for, and what is kept of them. Nothing here names the struct that has these parts.
-use Rattle.std.specs.Prelude.{ℕ, ◌≤◌, cond, List, map, length, Option, nat_lt}
+use Rattle.std.specs.Prelude.{◌≡◌, ℕ, ◌<◌, ◌≤◌, cond, List, map, length, Option, nat_lt}
 use Rattle.chain.specs.declared.Links.{Links}
 use Rattle.chain.specs.Chains.{Ends, chain, nexts, records}
 use Rattle.rules.specs.Sound.{in_table}
@@ -20,6 +20,11 @@ table_of links free ready suspended running = record {
   ready = chain (nexts links) ready;
   suspended = chain (nexts links) suspended;
 }
+
+-- t is one of the records and stands nowhere in the table, so it can be placed
+pub record Unplaced (t : ℕ) (a : Table) : Type 0 where
+  pub within : t < length a.tasks
+  pub nowhere : in_table t a ≡ 0
 
 -- each of the three chains ends
 abbrev pub AllEnd : List (Option ℕ) → Option ℕ → Option ℕ → Option ℕ → Type 0

@@ -1,16 +1,15 @@
 // What is done to the chains of a task table.
 
 ghost use Rattle.std.specs.Prelude.{◌≡◌, ◌<◌, length};
+ghost use Rattle.tasks.specs.Parts.{Unplaced};
 ghost use Rattle.rules.specs.Tables.{choose, link, put_free, stop, suspend, take_free, take_out, unsuspend};
-ghost use Rattle.rules.specs.Sound.{in_table};
 
 use crate::Tasks;
 
 impl Tasks {
     // Task `t`, which is nowhere, goes into the ready chain, behind all of equal or higher rank.
     pub fn link(&mut self, t: usize)
-        requires within { t < length self.old.tasks }
-        requires nowhere { in_table t self.old ≡ 0 }
+        requires { Unplaced t self.old }
         ensures { self.new ≡ link t self.old }
     {
         self.links.link_by_rank(&mut self.ready, t);
@@ -18,8 +17,7 @@ impl Tasks {
 
     // Task `t`, which is nowhere, goes to the head of the suspended chain.
     pub fn suspend(&mut self, t: usize)
-        requires within { t < length self.old.tasks }
-        requires nowhere { in_table t self.old ≡ 0 }
+        requires { Unplaced t self.old }
         ensures { self.new ≡ suspend t self.old }
     {
         self.links.put_first(&mut self.suspended, t);
@@ -27,8 +25,7 @@ impl Tasks {
 
     // Record `t`, which is nowhere, goes to the head of the free chain.
     pub(crate) fn put_free(&mut self, t: usize)
-        requires within { t < length self.old.tasks }
-        requires nowhere { in_table t self.old ≡ 0 }
+        requires { Unplaced t self.old }
         ensures { self.new ≡ put_free t self.old }
     {
         self.links.put_first(&mut self.free, t);

@@ -4,8 +4,7 @@ ghost use Rattle.std.specs.Prelude.{◌≡◌, ◌<◌, not, ◌&&◌, length, �
 ghost use Rattle.chain.specs.Lists.{has};
 ghost use Rattle.rules.specs.State.{record_in, with_level, with_mark, with_word};
 ghost use Rattle.rules.specs.Tables.{change, clear, fill, lookup};
-ghost use Rattle.tasks.specs.Parts.{as_task};
-ghost use Rattle.rules.specs.Sound.{in_table};
+ghost use Rattle.tasks.specs.Parts.{Unplaced, as_task};
 
 use crate::{Task, Tasks};
 
@@ -53,8 +52,7 @@ impl Tasks {
 
     // Clears the record `t`, which is nowhere, and frees it.
     pub fn clear(&mut self, t: usize)
-        requires within { t < length self.old.tasks }
-        requires nowhere { in_table t self.old ≡ 0 }
+        requires { Unplaced t self.old }
         ensures { self.new ≡ clear t self.old }
     {
         self.replace(t, Task::new(0, 0, 0, 0));

@@ -3,16 +3,14 @@
 ghost use Rattle.std.specs.Prelude.{◌≡◌, ◌<◌, length, Some};
 ghost use Rattle.chain.specs.Lists.{first};
 ghost use Rattle.rules.specs.Tables.{choose, fill, hand, link, release, stop, turn};
-ghost use Rattle.tasks.specs.Parts.{as_task};
-ghost use Rattle.rules.specs.Sound.{in_table};
+ghost use Rattle.tasks.specs.Parts.{Unplaced, as_task};
 
 use crate::{Task, Tasks};
 
 impl Tasks {
     // Task `t`, whose wait is over and which is nowhere, is suspended if it has a mark, and linked otherwise.
     pub fn release(&mut self, t: usize)
-        requires within { t < length self.old.tasks }
-        requires nowhere { in_table t self.old ≡ 0 }
+        requires { Unplaced t self.old }
         ensures { self.new ≡ release t self.old }
     {
         if self.task(t).mark {
@@ -24,8 +22,7 @@ impl Tasks {
 
     // Task `t`, which waited for a message and is nowhere, gets it and is released.
     pub fn hand(&mut self, message: u16, t: usize)
-        requires within { t < length self.old.tasks }
-        requires nowhere { in_table t self.old ≡ 0 }
+        requires { Unplaced t self.old }
         ensures { self.new ≡ hand message t self.old }
     {
         self.give_word(t, message);

@@ -3,8 +3,8 @@
 ghost use Rattle.std.specs.Prelude.{◌≡◌, ◌<◌, length};
 ghost use Rattle.tables.specs.Promises.{Serves};
 ghost use Rattle.queues.specs.Number.{number_of};
-ghost use Rattle.rules.specs.Sound.{in_table};
 ghost use Rattle.rules.specs.Tables.{release, turn};
+ghost use Rattle.tasks.specs.Parts.{Unplaced};
 
 use calls::Refusal;
 use moving::one_move;
@@ -15,8 +15,7 @@ use unit::Unit;
 
 // Task `t`, whose wait at a unit is over, is released, and a turn follows.
 fn finish(tasks: &mut Tasks, t: usize)
-    requires within { t < length tasks.old.tasks }
-    requires nowhere { in_table t tasks.old ≡ 0 }
+    requires { Unplaced t tasks.old }
     ensures { tasks.new ≡ turn (release t tasks.old) }
 {
     tasks.release(t);

@@ -5,9 +5,7 @@ use Rattle.tables.proofs.Stands.{kept, left}
 use Rattle.own.proofs.kill.Goals as goal
 
 pub clear-requires : goal.clear-requires
-clear-requires c =
-    let h = left c.in_ok-caller.ensures c.stop.ensures in
-    record { within = h.within; nowhere = h.nowhere }
+clear-requires c = left c.in_ok-caller.ensures c.stop.ensures
 
 pub invariant_of-tables : goal.invariant_of-tables
 invariant_of-tables c = record { stands = kept c.args.tables.now Kill tt (search rules) (refl, refl, refl) }

@@ -8,9 +8,7 @@ pub set_mark-requires : goal.set_mark-requires
 set_mark-requires c = (left c.in_ok-caller.ensures c.stop.ensures).within
 
 pub suspend-requires : goal.suspend-requires
-suspend-requires c =
-    let h = left-changed _ c.set_mark.ensures (left c.in_ok-caller.ensures c.stop.ensures) in
-    record { within = h.within; nowhere = h.nowhere }
+suspend-requires c = left-changed _ c.set_mark.ensures (left c.in_ok-caller.ensures c.stop.ensures)
 
 pub invariant_of-tables : goal.invariant_of-tables
 invariant_of-tables c = record { stands = kept c.args.tables.now Suspend tt (search rules) (refl, refl, refl) }

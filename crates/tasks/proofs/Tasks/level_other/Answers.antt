@@ -7,11 +7,7 @@ use Rattle.tasks.proofs.Placing.{unready_unplaced}
 use Rattle.tasks.proofs.Tasks.level_other.Goals as goal
 
 pub link-requires : goal.link-requires
-link-requires c =
-    let s = c.set_level.new.self in
-    let p = subst Placed c.self.view_is c.self.invariant.placed in
-    let u = unready_unplaced s p c.args.k (sym c.is_ready.ensures ∙ c.if-is_ready.true) _ c.take_out.ensures in
-    record { within = u.0; nowhere = u.1 }
+link-requires c = rw c.take_out.ensures (unready_unplaced c.set_level.new.self (subst Placed c.self.view_is c.self.invariant.placed) c.args.k (sym c.is_ready.ensures ∙ c.if-is_ready.true))
 
 pub returns-then-is_ready : goal.returns-then-is_ready
 returns-then-is_ready c =

@@ -8,15 +8,11 @@ link_by_rank-requires c =
     record {
       ends = c.self.invariant.ends.1;
       within = within-links x c.args.t (rw c.self.view_is c.requires.within);
-      fresh = not-ready x c.args.t (rw c.self.view_is c.requires.nowhere);
+      fresh = not-ready x c.args.t (rw c.self.view_is c.requires);
     }
 
 pub invariant_of-self : goal.invariant_of-self
-invariant_of-self c =
-    let u = c.link_by_rank in
-    (linked c.self.inside c.self.invariant c.args.t (rw c.self.view_is c.requires.within) (rw c.self.view_is c.requires.nowhere) u.new.self u.new.head u.ensures.records u.ensures.links).kept
+invariant_of-self c = let u = c.link_by_rank in (linked c.self.inside c.self.invariant c.args.t (rw c.self.view_is c.requires) u.new.self u.new.head u.ensures.records u.ensures.links).kept
 
 pub returns : goal.returns
-returns c =
-    let u = c.link_by_rank in
-    rw (← c.self.view_is) (linked c.self.inside c.self.invariant c.args.t (rw c.self.view_is c.requires.within) (rw c.self.view_is c.requires.nowhere) u.new.self u.new.head u.ensures.records u.ensures.links).is
+returns c = let u = c.link_by_rank in rw (← c.self.view_is) (linked c.self.inside c.self.invariant c.args.t (rw c.self.view_is c.requires) u.new.self u.new.head u.ensures.records u.ensures.links).is

@@ -7,11 +7,7 @@ use Rattle.tasks.proofs.Placing.{unsuspended_unplaced}
 use Rattle.tasks.proofs.Tasks.ready_other.Goals as goal
 
 pub link-requires : goal.link-requires
-link-requires c =
-    let s = c.set_mark.new.self in
-    let p = subst Placed c.self.view_is c.self.invariant.placed in
-    let u = unsuspended_unplaced s p c.args.k (sym c.is_suspended.ensures ∙ c.if-is_suspended.true) _ c.unsuspend.ensures in
-    record { within = u.0; nowhere = u.1 }
+link-requires c = rw c.unsuspend.ensures (unsuspended_unplaced c.set_mark.new.self (subst Placed c.self.view_is c.self.invariant.placed) c.args.k (sym c.is_suspended.ensures ∙ c.if-is_suspended.true))
 
 pub returns-then-is_suspended : goal.returns-then-is_suspended
 returns-then-is_suspended c =

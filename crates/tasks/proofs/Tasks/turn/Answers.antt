@@ -1,10 +1,8 @@
 -- The running task is nowhere as soon as it runs no longer.
-use Rattle.std.proofs.Common.{◌≡◌, ◌<◌, length, Some, sym, ◌∙◌, subst}
-use Rattle.rules.specs.Tables.{stop}
+use Rattle.std.proofs.Common.{◌≡◌, Some, sym, ◌∙◌, subst}
 use Rattle.tasks.specs.Parts.{Placed}
-use Rattle.tasks.proofs.Places.{tasks-stop}
 use Rattle.tasks.proofs.Cases.{turn-none, turn-some}
-use Rattle.tasks.proofs.Placing.{running-within, stopped-nowhere, unplaced_as}
+use Rattle.tasks.proofs.Placing.{stopped_unplaced}
 use Rattle.tasks.proofs.Tables.{runs-is}
 use Rattle.tasks.proofs.Tasks.turn.Goals as goal
 use Rattle.tasks.proofs.Tasks.turn.Goals.{in-Some, in_default}
@@ -15,8 +13,7 @@ link-requires c =
     let p = subst Placed c.self.view_is c.self.invariant.placed in
     let t = c.in-Some.caller in
     let is : a.running ≡ Some t = rw (← c.self.view_is) (sym (runs-is c.self.inside) ∙ c.in-Some.is) in
-    let u = unplaced_as t (stop a) _ c.stop.ensures (subst (λ ts. t < length ts) (sym (tasks-stop a)) (running-within a p t is)) (stopped-nowhere a p t is) in
-    record { within = u.0; nowhere = u.1 }
+    rw c.stop.ensures (stopped_unplaced a p t is)
 
 pub returns : goal.returns
 returns c =

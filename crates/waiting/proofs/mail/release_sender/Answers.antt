@@ -6,5 +6,4 @@ use Rattle.waiting.proofs.mail.release_sender.Goals as goal
 
 pub release-requires : goal.release-requires
 release-requires c =
-    let h = away c.in-Some.sender c.args.tasks.now (waiters (cells c.args.cells.now).waits) (waiters (cells c.take_first_at.new.self).waits) c.requires c.in-Some.ensures.laws.counts in
-    record { within = h.within; nowhere = h.nowhere }
+    away c.in-Some.sender c.args.tasks.now (waiters (cells c.args.cells.now).waits) (waiters (cells c.take_first_at.new.self).waits) c.requires c.in-Some.ensures.laws.counts

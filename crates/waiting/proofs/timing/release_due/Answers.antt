@@ -12,8 +12,7 @@ loop-task-init c = (record { spread = c.requires.spread; table = refl; waits = r
 pub release-requires : goal.release-requires
 release-requires c =
     let l = c.loop-task in
-    let h = away c.in-Some.task l.tasks (sleepers (sleeping l.waits)) (sleepers (sleeping c.pop_due.new.self)) l.invariant.0.spread c.in-Some.ensures.laws.counts in
-    record { within = h.within; nowhere = h.nowhere }
+    away c.in-Some.task l.tasks (sleepers (sleeping l.waits)) (sleepers (sleeping c.pop_due.new.self)) l.invariant.0.spread c.in-Some.ensures.laws.counts
 
 pub overflow_add-count : goal.overflow_add-count
 overflow_add-count c =
