@@ -1,5 +1,5 @@
 -- What is kept of every state: how it is read off the tables, and how a step keeps it.
-use Rattle.std.proofs.Common.{◌≡◌, ℕ, ◌+◌, ◌<◌, ◌≤◌, Bool, true, false, List, [], ◌∷◌, length, Some, Option, sym, refl, ap, ◌∙◌, subst, arith}
+use Rattle.std.proofs.Common.{◌≡◌, ℕ, ◌+◌, ◌≤◌, Bool, true, false, List, [], ◌∷◌, length, Some, Option, sym, refl, ap, ◌∙◌, subst, arith}
 use mathlib.Core.Bool.{Bool-set}
 use mathlib.Core.Logic.{∥∥₁_elim, ∥∥₁_map}
 use native.Mathlib.Nat.{ℕ_set}
@@ -20,7 +20,6 @@ use Rattle.queues.specs.Four as queues
 use Rattle.queues.proofs.Everywhere.{has_queue}
 use Rattle.queues.specs.Number.{number_of}
 use Rattle.queues.specs.declared.number.UnitNumber.{UnitNumber}
-use Rattle.queues.specs.declared.number.UnitNumber.TheVariants.{Unit0, Unit1, Unit2, Unit3}
 use Rattle.unit.specs.Medium.{Medium}
 use Rattle.rules.specs.State.{Cells, ClockWait, Request, State, Table, Task, begin, begin_cells, begin_table, blank, record_in, with_units}
 use Rattle.rules.specs.Tables.{change, stop}
@@ -29,7 +28,7 @@ use Rattle.rules.specs.Records.{all_askers, askers, sleepers, waiters}
 use Rattle.rules.specs.Rules.{Step, apply}
 use Rattle.rules.specs.Laws.{Lawful}
 use Rattle.rules.specs.Sound.{OnePlace, all_fit, fits, in_table, in_waits}
-use Rattle.rules.proofs.Counts.{in_change, one_same, size-change}
+use Rattle.rules.proofs.Counts.{one_same}
 use Rattle.rules.proofs.Waits.{count-one_queue}
 use Rattle.rules.proofs.Sounds.{foremost-step, good_begin, size_step, sound-step}
 use Rattle.tables.specs.Caller.{Caller, NoCaller}
@@ -122,15 +121,6 @@ pub called : (k : Tables) (o : Option ℕ) → o ≡ k.tasks.running → MatchRe
 called k None e = record { refused = refl; idle = e }
 called k (Some t) e = caller k t e
 
--- the caller can be placed as soon as it runs no longer
-pub left : {k : Tables} {t : ℕ} {a : Table} → Caller k t → a ≡ stop k.tasks → Unplaced t a
-unfolding stop
-left h is = rw is (record { within = h.within; nowhere = h.stopped })
-
--- and after a change of its record
-pub left-changed : {t : ℕ} {a b : Table} (f : Task → Task) → b ≡ change t f a → Unplaced t a → Unplaced t b
-left-changed f is h = rw is (changed_unplaced f h)
-
 -- Waits -----------------------------------------------------------------------------------------------------------------------
 
 module _ (k : Tables) where
@@ -173,7 +163,7 @@ first_request k unit r e =
 
 -- its record put anew, the task is nowhere still
 pub put : (k : Tables) (unit : UnitNumber) (r : Request) (y : Task) (a : Table) → First k unit r → a ≡ change r.task (λ _. y) k.tasks → Unplaced r.task a
-put k unit r y a h is = left-changed (λ _. y) is h.unplaced
+put k unit r y a h is = rw is (changed_unplaced (λ _. y) h.unplaced)
 
 -- The start -------------------------------------------------------------------------------------------------------------------
 

@@ -39,9 +39,9 @@ none-runs-still : (i t : ℕ) (a : Table) → (link i (link t (stop a))).running
 unfolding link stop
 none-runs-still i t a = refl
 
-still-runs : (i : ℕ) (x : Task) (a : Table) → (fill i x a).running ≡ a.running
+pub runs-fill : (i : ℕ) (x : Task) (a : Table) → (fill i x a).running ≡ a.running
 unfolding change take_free
-still-runs i x a = refl
+runs-fill i x a = refl
 
 -- ── places ──
 
@@ -130,7 +130,7 @@ module _ (k : ℕ) where
   pub in_unstarted : (a : Table) (t i : ℕ) (x : Task) → a.running ≡ Some t → first a.free ≡ Some i → one k t + (one k i + in_table k (stop (fill i x a))) ≡ in_table k a
   in_unstarted a t i x runs free =
       let z : count k (option_to_list (first a.free)) ≡ one k i + 0 = ap (λ (o : Option ℕ). count k (option_to_list o)) free in
-      omega (arith, in_stopped (fill i x a) t (still-runs i x a ∙ runs), in_fill i x a)
+      omega (arith, in_stopped (fill i x a) t (runs-fill i x a ∙ runs), in_fill i x a)
 
   pub in_suspend_other : (t : ℕ) (a : Table) → in_table k (suspend_other t a) ≡ in_table k a
   in_suspend_other t a =

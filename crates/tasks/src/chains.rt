@@ -1,6 +1,7 @@
 // What is done to the chains of a task table.
 
-ghost use Rattle.std.specs.Prelude.{◌≡◌, ◌<◌, length};
+ghost use Rattle.std.specs.Prelude.{◌≡◌, ℕ, true, Some};
+ghost use Rattle.chain.specs.Lists.{first, has};
 ghost use Rattle.tasks.specs.Parts.{Unplaced};
 ghost use Rattle.rules.specs.Tables.{choose, link, put_free, stop, suspend, take_free, take_out, unsuspend};
 
@@ -31,23 +32,26 @@ impl Tasks {
         self.links.put_first(&mut self.free, t);
     }
 
-    // Task `t` leaves the ready chain, if it is there.
+    // Task `t` leaves the ready chain, if it is there, and can be placed anew then.
     pub fn take_out(&mut self, t: usize)
-        ensures { self.new ≡ take_out t self.old }
+        ensures table { self.new ≡ take_out t self.old }
+        ensures left { has t self.old.ready ≡ true → Unplaced t self.new }
     {
         self.links.take_out(&mut self.ready, t);
     }
 
-    // Task `t` leaves the suspended chain, if it is there.
+    // Task `t` leaves the suspended chain, if it is there, and can be placed anew then.
     pub fn unsuspend(&mut self, t: usize)
-        ensures { self.new ≡ unsuspend t self.old }
+        ensures table { self.new ≡ unsuspend t self.old }
+        ensures left { has t self.old.suspended ≡ true → Unplaced t self.new }
     {
         self.links.take_out(&mut self.suspended, t);
     }
 
-    // The first free record leaves the free chain.
+    // The first free record leaves the free chain, and can be placed then.
     pub(crate) fn take_free(&mut self)
-        ensures { self.new ≡ take_free self.old }
+        ensures table { self.new ≡ take_free self.old }
+        ensures left { (k : ℕ) → first self.old.free ≡ Some k → Unplaced k self.new }
     {
         let _ = self.links.take_first(&mut self.free);
     }
@@ -59,9 +63,10 @@ impl Tasks {
         self.running = self.links.take_first(&mut self.ready);
     }
 
-    // The running task runs no longer.
+    // The running task runs no longer, and can be placed then.
     pub fn stop(&mut self)
-        ensures { self.new ≡ stop self.old }
+        ensures table { self.new ≡ stop self.old }
+        ensures left { (t : ℕ) → self.old.running ≡ Some t → Unplaced t self.new }
     {
         self.running = None;
     }

@@ -14,8 +14,6 @@ impl Tasks {
         requires other { self.old.running ≢ Some k }
         ensures { self.new ≡ kill_other k self.old }
     {
-        // A look inside: every record stands at one place at most.
-        let _ = &self.links;
         self.take_out(k);
         self.unsuspend(k);
         self.clear(k);
@@ -28,8 +26,6 @@ impl Tasks {
     {
         self.set_mark(k, true);
         if self.is_ready(k) {
-            // A look inside: every record stands at one place at most.
-            let _ = &self.links;
             self.take_out(k);
             self.suspend(k);
         }
@@ -42,8 +38,6 @@ impl Tasks {
     {
         self.set_mark(k, false);
         if self.is_suspended(k) {
-            // A look inside: every record stands at one place at most.
-            let _ = &self.links;
             self.unsuspend(k);
             self.link(k);
         }
@@ -56,8 +50,6 @@ impl Tasks {
     {
         self.set_level(k, level);
         if self.is_ready(k) {
-            // A look inside: every record stands at one place at most.
-            let _ = &self.links;
             self.take_out(k);
             self.link(k);
         }

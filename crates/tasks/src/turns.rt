@@ -33,7 +33,7 @@ impl Tasks {
     pub fn turn(&mut self)
         ensures { self.new ≡ turn self.old }
     {
-        if let Some(caller) = self.running {
+        if let Some(caller) = self.running() {
             self.stop();
             self.link(caller);
         }
@@ -46,8 +46,6 @@ impl Tasks {
         requires free { first self.old.free ≡ Some k }
         ensures { self.new ≡ choose (link k (link caller (stop (fill k (as_task with) self.old)))) }
     {
-        // A look inside: every record stands at one place at most.
-        let _ = &self.links;
         self.fill(k, with);
         self.stop();
         self.link(caller);

@@ -1,5 +1,5 @@
 -- The caller is one of the records and waits nowhere; what it asks for is what the rules ask for.
-use Rattle.std.proofs.Common.{List, Ok, Err, refl, ap, ◌∙◌, arith}
+use Rattle.std.proofs.Common.{List, Ok, Err, sym, refl, ap, ◌∙◌, arith}
 use Rattle.calls.specs.Calls.{transfer_with}
 use Rattle.calls.specs.declared.call.Call.TheVariants.{Transfer}
 use Rattle.rules.specs.Rules.{apply}
@@ -9,7 +9,7 @@ use Rattle.unit.specs.Medium.{Medium}
 use Rattle.moving.specs.Wanted.{as_wanted}
 use Rattle.tables.specs.Parts.{blanks, state_of}
 use Rattle.tables.specs.View.{state}
-use Rattle.tables.proofs.Stands.{kept, left}
+use Rattle.tables.proofs.Stands.{kept}
 use Rattle.transfers.proofs.Requested.{Is, granted, refused}
 use Rattle.transfers.proofs.asking.transfer.Goals as goal
 use Rattle.transfers.proofs.asking.transfer.Goals.{After-turn, In_err-asked, at-returns, at-returns-in_err-asked}
@@ -33,10 +33,10 @@ join-requires c =
     record { within = omega (arith, h.within, r.askers); fresh = h.served }
 
 pub task-requires : goal.task-requires
-task-requires c = (left c.in_ok-caller.ensures c.stop.ensures).within
+task-requires c = (c.stop.ensures.left c.in_ok-caller.caller (sym c.in_ok-caller.ensures.runs)).within
 
 pub replace-requires : goal.replace-requires
-replace-requires c = (left c.in_ok-caller.ensures c.stop.ensures).within
+replace-requires c = (c.stop.ensures.left c.in_ok-caller.caller (sym c.in_ok-caller.ensures.runs)).within
 
 -- the transfer, as the rules see it
 done : (c : After-turn) (us : List Medium)
@@ -46,7 +46,7 @@ done c us =
     let w = as_wanted c.in_ok-asked.asked in
     granted c.args.tables.now c.in_ok-caller.caller c.args.unit c.in_ok-at.at (transfer_with (λ t. t.now) c.args.transfer) c.in_ok-caller.ensures.runs c.in_ok-at.ensures us
     w c.turn.new.self c.join.new.self c.in_ok-asked.ensures c.stop.new.self c.replace.new.self (as_task c.begun-task.result) (as_task c.task.result.now)
-    c.stop.ensures c.task.ensures c.begun-task.ensures c.replace.ensures c.turn.ensures c.join.ensures.queues
+    c.stop.ensures.table c.task.ensures c.begun-task.ensures c.replace.ensures c.turn.ensures c.join.ensures.queues
 
 pub returns : goal.returns
 returns c = record { state = λ us. (done (at-returns c).After-turn us).state; answer = λ us. (done (at-returns c).After-turn us).answer; room = (refl, refl, c.join.ensures.room) }
