@@ -10,7 +10,8 @@ use Rattle.rules.specs.State.{Table, Task, begin_table, blank}
 use Rattle.rules.specs.Tables.{change, choose, link, put_free, stop, suspend, take_free, take_out, unsuspend}
 use Rattle.tasks.specs.Parts.{Placed, Unplaced}
 use Rattle.rules.specs.Sound.{in_table}
-use Rattle.tasks.proofs.Places.{count_less, in_begin, in_change, in_choose, in_link, in_put_free, in_stop, in_stopped, in_suspend, in_take_free, in_take_out, in_unsuspend, less_take_out, less_unsuspend, one_same, size-change, tasks-choose, tasks-link, tasks-put_free, tasks-stop, tasks-suspend, tasks-take_free, tasks-take_out, tasks-unsuspend}
+use Rattle.rules.proofs.Counts.{in_change, in_link, in_put_free, in_stop, in_stopped, in_suspend, in_take_out, in_unsuspend, one_same, size-change, tasks-link, tasks-suspend}
+use Rattle.tasks.proofs.Places.{count_less, in_begin, in_choose, in_take_free, less_take_out, less_unsuspend, tasks-choose, tasks-put_free, tasks-stop, tasks-take_free, tasks-take_out, tasks-unsuspend}
 
 -- ── what follows ──
 

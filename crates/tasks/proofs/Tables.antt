@@ -16,7 +16,8 @@ use Rattle.tasks.specs.declared.task.Task.{Task}
 use Rattle.tasks.specs.declared.Tasks.TheInside.{Inside}
 use Rattle.tasks.specs.Parts.{AllEnd, Intact, Placed, Unplaced, as_task, table_of}
 use Rattle.rules.specs.Sound.{in_table}
-use Rattle.tasks.proofs.Places.{in_link, in_put_free, in_suspend, rest-rising}
+use Rattle.rules.proofs.Counts.{in_link, in_put_free, in_suspend}
+use Rattle.tasks.proofs.Places.{rest-rising}
 use Rattle.tasks.proofs.Placing.{at_most_one, placed-begin, placed-change, placed-choose, placed-link, placed-put_free, placed-stop, placed-suspend, placed-take_free, placed-take_out, placed-unsuspend}
 
 abbrev view : Inside → Table

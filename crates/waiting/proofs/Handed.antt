@@ -3,7 +3,8 @@ use Rattle.std.proofs.Common.{◌≡◌, ℕ, ◌+◌, List, [], ◌∷◌, leng
 use Rattle.std.specs.Option.{option_to_list}
 use Rattle.std.proofs.lemmas.Bool.Decides.{nat_tests}
 use Rattle.chain.specs.Lists.{count, first, one}
-use Rattle.tasks.proofs.Places.{in_change, in_hand, in_release, one_same, size-change, size-hand, tasks-release}
+use Rattle.rules.proofs.Counts.{in_change, in_hand, in_release, one_same, size-change, tasks-release}
+use Rattle.tasks.proofs.Places.{size-hand}
 use Rattle.tasks.specs.Parts.{Unplaced}
 use Rattle.cells.specs.Ended.{EndedOne}
 use Rattle.rules.specs.State.{Cells, Table, Task}
