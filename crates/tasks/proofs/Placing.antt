@@ -130,8 +130,8 @@ placed-begin n some k =
 -- ── a new task ──
 
 -- the record k, which stood nowhere, stands nowhere still when the running task t is stopped and linked
-pub new_unplaced : {k t : ℕ} {a : Table} → a.running ≡ Some t → Unplaced k a → Unplaced k (link t (stop a))
-new_unplaced {k = k} {t = t} {a = a} runs h =
+pub new_unplaced : (k t : ℕ) (a : Table) → a.running ≡ Some t → Unplaced k a → Unplaced k (link t (stop a))
+new_unplaced k t a runs h =
     let s = ap length (tasks-link t (stop a) ∙ tasks-stop a) in
     let w = h.within in let n = h.nowhere in
     record { within = omega (arith, s); nowhere = omega (arith, in_link k t (stop a), in_stopped k a t runs) }

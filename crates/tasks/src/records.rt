@@ -1,9 +1,9 @@
 // What is done to the records of a task table, and the record that has an id.
 
-ghost use Rattle.std.specs.Prelude.{◌≡◌, ◌<◌, not, ◌&&◌, length, Some, ◌==◌};
-ghost use Rattle.chain.specs.Lists.{first, has};
+ghost use Rattle.std.specs.Prelude.{◌≡◌, ◌<◌, not, ◌&&◌, length, ◌==◌};
+ghost use Rattle.chain.specs.Lists.{has};
 ghost use Rattle.rules.specs.State.{record_in, with_level, with_mark, with_word};
-ghost use Rattle.rules.specs.Tables.{change, clear, fill, lookup};
+ghost use Rattle.rules.specs.Tables.{change, clear, lookup};
 ghost use Rattle.tasks.specs.Parts.{Unplaced, as_task};
 
 use crate::{Task, Tasks};
@@ -39,16 +39,6 @@ impl Tasks {
     {
         let task = *self.task(t);
         self.replace(t, Task { mark, ..task });
-    }
-
-    // Fills the record `k`, the first free one, which leaves the free chain and can be placed then.
-    pub(crate) fn fill(&mut self, k: usize, with: Task)
-        requires { first self.old.free ≡ Some k }
-        ensures table { self.new ≡ fill k (as_task with) self.old }
-        ensures left { Unplaced k self.new }
-    {
-        self.take_free();
-        self.replace(k, with);
     }
 
     // Clears the record `t`, which is nowhere, and frees it.

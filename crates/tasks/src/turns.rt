@@ -46,7 +46,8 @@ impl Tasks {
         requires free { first self.old.free ≡ Some k }
         ensures { self.new ≡ choose (link k (link caller (stop (fill k (as_task with) self.old)))) }
     {
-        self.fill(k, with);
+        self.take_free();
+        self.replace(k, with);
         self.stop();
         self.link(caller);
         self.link(k);
