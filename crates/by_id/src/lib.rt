@@ -7,7 +7,6 @@ ghost use Rattle.calls.specs.declared.call.Call.TheVariants.{ById};
 ghost use Rattle.tables.specs.Promises.{Does};
 ghost use Rattle.tables.specs.View.{state};
 ghost use Rattle.rules.specs.Records.{bit as bit_of, status_of};
-ghost use Rattle.tasks.specs.View.{table};
 ghost use Rattle.unit.specs.Medium.{Medium};
 
 use calls::{ByIdCall, Refusal};
@@ -111,7 +110,7 @@ pub fn status_id(tables: &Tables, id: u8) -> Result<u16, Refusal>
 
 // The status of a record.
 fn status(tables: &Tables, task: usize) -> u16
-    requires { task < length (table tables.now.tasks).tasks }
+    requires { task < length tables.now.tasks.tasks }
     ensures { (us : List Medium) → result ≡ status_of (state us tables.now) task }
 {
     let unit = bit(tables.queues.is_asking(task), 1);

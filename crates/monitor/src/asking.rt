@@ -51,6 +51,7 @@ impl<A: Unit, B: Unit, C: Unit, D: Unit> Monitor<A, B, C, D> {
     pub fn service(&mut self, unit: u8) -> Result<u16, Refusal>
         ensures { Made (Service unit) self.old self.new result }
     {
+        // Each unit is of a type of its own, so each has an arm.
         match UnitNumber::try_from(unit)? {
             UnitNumber::Unit0 => serve(&mut self.tables, UnitNumber::Unit0, &mut self.units.unit_0),
             UnitNumber::Unit1 => serve(&mut self.tables, UnitNumber::Unit1, &mut self.units.unit_1),

@@ -1,5 +1,6 @@
 // The task monitor: the tables, and four units of any kind. What it means is a state of the rules; every call promises the
-// state and the answer that the rules give, and the laws over whole runs stand on the call that takes any step.
+// state and the answer that the rules give, and the laws over whole runs stand on the call that takes any step. The method of a
+// call takes the fields of that call; a struct of them would be the `Call` again, which `step` takes.
 #![tactic(auto)]
 
 mod asking;
@@ -52,7 +53,8 @@ pub struct Performance<A: Unit, B: Unit, C: Unit, D: Unit> {
     pub answers: Vec<Result<u16, Refusal>>,
 }
 
-// What a start hands back where memory is wanting.
+// What a start hands back where memory is wanting. It is made only there, by a `let .. else`: a closure for `map_err` would take
+// the units from the start that succeeds.
 #[derive(Drop)]
 pub struct NotStarted<A, B, C, D> {
     pub sealed: Sealed,

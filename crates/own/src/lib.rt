@@ -8,7 +8,6 @@ ghost use Rattle.rules.specs.Rules.{seen};
 ghost use Rattle.std.specs.Prelude.{◌<◌, length, ◌≡◌};
 ghost use Rattle.rules.specs.State.{level_in};
 ghost use Rattle.tasks.specs.Parts.{as_task};
-ghost use Rattle.tasks.specs.View.{table};
 
 use calls::{LookedAt, Refusal};
 use tables::Tables;
@@ -26,9 +25,7 @@ pub fn create(
     ensures { Does (Create id level start message) tables.old tables.new result }
 {
     let caller = tables.caller()?;
-    let Some(free) = tables.tasks.first_free() else {
-        return Err(Refusal::NoFreeRecord);
-    };
+    let free = tables.tasks.first_free().ok_or(Refusal::NoFreeRecord)?;
     if tables.tasks.find(id).is_some() {
         return Err(Refusal::IdInUse);
     }
@@ -82,8 +79,8 @@ pub fn look(tables: &Tables, at: LookedAt) -> Result<u16, Refusal>
 
 // The level of a new task: 0 stands for that of the caller.
 fn level_for(tasks: &Tasks, caller: usize, level: u8) -> u8
-    requires { caller < length (table tasks.now).tasks }
-    ensures { result ≡ or_else (level_in (table tasks.now) caller) level }
+    requires { caller < length tasks.now.tasks }
+    ensures { result ≡ or_else (level_in tasks.now caller) level }
 {
     or_else(tasks.task(caller).level, level)
 }

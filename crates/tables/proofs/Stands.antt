@@ -1,5 +1,5 @@
 -- What is kept of every state: how it is read off the tables, and how a step keeps it.
-use Rattle.std.proofs.Common.{◌≡◌, ℕ, ◌+◌, ◌<◌, ◌≤◌, Bool, true, false, List, [], ◌∷◌, length, Some, Option, sym, refl, ap, ◌∙◌, subst, arith}
+use Rattle.std.proofs.Common.{◌≡◌, ℕ, ◌+◌, ◌≤◌, Bool, true, false, List, [], ◌∷◌, length, Some, Option, sym, refl, ap, ◌∙◌, subst, arith}
 use mathlib.Core.Bool.{Bool-set}
 use mathlib.Core.Logic.{∥∥₁_elim, ∥∥₁_map}
 use native.Mathlib.Nat.{ℕ_set}
@@ -12,14 +12,14 @@ use Rattle.std.proofs.lemmas.Bool.{and_parts, le-leb, leb-true}
 use Rattle.std.proofs.lemmas.Bool.Decides.{nat_tests}
 use Rattle.chain.specs.Lists.{count, first, one, rest}
 use Rattle.chain.proofs.Members.{count_none}
-use Rattle.tasks.specs.View.{table}
+use Rattle.tasks.specs.Parts.{Placed, Unplaced}
+use Rattle.tasks.proofs.Placing.{changed_unplaced}
 use Rattle.clock.specs.View as clock
 use Rattle.cells.specs.View as cells
 use Rattle.queues.specs.Four as queues
 use Rattle.queues.proofs.Everywhere.{has_queue}
 use Rattle.queues.specs.Number.{number_of}
 use Rattle.queues.specs.declared.number.UnitNumber.{UnitNumber}
-use Rattle.queues.specs.declared.number.UnitNumber.TheVariants.{Unit0, Unit1, Unit2, Unit3}
 use Rattle.unit.specs.Medium.{Medium}
 use Rattle.rules.specs.State.{Cells, ClockWait, Request, State, Table, Task, begin, begin_cells, begin_table, blank, record_in, with_units}
 use Rattle.rules.specs.Tables.{change, stop}
@@ -28,7 +28,7 @@ use Rattle.rules.specs.Records.{all_askers, askers, sleepers, waiters}
 use Rattle.rules.specs.Rules.{Step, apply}
 use Rattle.rules.specs.Laws.{Lawful}
 use Rattle.rules.specs.Sound.{OnePlace, all_fit, fits, in_table, in_waits}
-use Rattle.rules.proofs.Counts.{in_change, one_same, size-change}
+use Rattle.rules.proofs.Counts.{one_same}
 use Rattle.rules.proofs.Waits.{count-one_queue}
 use Rattle.rules.proofs.Sounds.{foremost-step, good_begin, size_step, sound-step}
 use Rattle.tables.specs.Caller.{Caller, NoCaller}
@@ -95,14 +95,17 @@ kept-over {s = s} x step us four ok e w = over_units {s = s} blanks refl (after_
 pub one_place : (k : Tables) → OnePlace (state blanks k)
 one_place k t = ∥∥₁_elim k.stands.state (ℕ_set _ _) (λ h. h.sound.one_place t)
 
+pub placed : (k : Tables) → Placed k.tasks
+placed k t = let o = one_place k t in omega arith
+
 in_running : (t : ℕ) (a : Table) → a.running ≡ Some t → in_table t a ≡ in_table t (stop a) + 1
 unfolding in_table stop
 in_running t a e = let z : count t (option_to_list a.running) ≡ 1 = ap (λ (o : Option ℕ). count t (option_to_list o)) e ∙ (let o = one_same t in omega arith) in omega arith
 
-pub caller : (k : Tables) (t : ℕ) → Some t ≡ (table k.tasks).running → Caller k t
+pub caller : (k : Tables) (t : ℕ) → Some t ≡ k.tasks.running → Caller k t
 caller k t e =
     let o = one_place k t in
-    let r = in_running t (table k.tasks) (sym e) in
+    let r = in_running t k.tasks (sym e) in
     let n : in_waits t (state blanks k) ≡ 0 = grind (arith, nat_tests) in
     record {
       runs = e;
@@ -114,34 +117,18 @@ caller k t e =
     }
 
 -- whether one runs
-pub called : (k : Tables) (o : Option ℕ) → o ≡ (table k.tasks).running → MatchResult (ok_or o NoTask) (Caller k) (NoCaller k)
+pub called : (k : Tables) (o : Option ℕ) → o ≡ k.tasks.running → MatchResult (ok_or o NoTask) (Caller k) (NoCaller k)
 called k None e = record { refused = refl; idle = e }
 called k (Some t) e = caller k t e
-
--- the caller, which runs no longer, is nowhere
-pub record Left (t : ℕ) (a : Table) : Type 0 where
-  pub within : t < length a.tasks
-  pub nowhere : in_table t a ≡ 0
-
-stopped-size : (a : Table) → length (stop a).tasks ≡ length a.tasks
-unfolding stop
-stopped-size a = refl
-
-pub left : {k : Tables} {t : ℕ} {a : Table} → Caller k t → a ≡ stop (table k.tasks) → Left t a
-left {k = k} {t = t} h is = let w = h.within in let z = stopped-size (table k.tasks) in subst (Left t) (sym is) (record { within = omega arith; nowhere = h.stopped })
-
--- nor is it after a change of its record
-pub left-changed : {t : ℕ} {a b : Table} (f : Task → Task) → b ≡ change t f a → Left t a → Left t b
-left-changed {t = t} {a = a} f is h = let z = size-change t f a in let i = in_change t t f a in subst (Left t) (sym is) (record { within = (let w = h.within in omega arith); nowhere = i ∙ h.nowhere })
 
 -- Waits -----------------------------------------------------------------------------------------------------------------------
 
 module _ (k : Tables) where
   -- those that wait at cells, or for a due tick, are not in the table
-  pub spread-cells : Spread (table k.tasks) (waiters (cells.cells k.cells).waits)
+  pub spread-cells : Spread k.tasks (waiters (cells.cells k.cells).waits)
   spread-cells t = let o = one_place k t in grind (arith, nat_tests)
 
-  pub spread-clock : Spread (table k.tasks) (sleepers (clock.sleeping k.waits))
+  pub spread-clock : Spread k.tasks (sleepers (clock.sleeping k.waits))
   spread-clock t = let o = one_place k t in grind (arith, nat_tests)
 
   -- the clock reads at most its last reading
@@ -150,12 +137,11 @@ module _ (k : Tables) where
 
 -- Requests --------------------------------------------------------------------------------------------------------------------
 
--- the first request at a unit: its task is one of the records, stands nowhere in the table, and can have the request
+-- the first request at a unit: its task stands nowhere in the table and can have the request
 pub record First (k : Tables) (unit : UnitNumber) (r : Request) : Type 0 where
   pub starts : queues.queue_at unit k.queues ≡ r ∷ rest (queues.queue_at unit k.queues)
-  pub within : r.task < length (table k.tasks).tasks
-  pub nowhere : in_table r.task (table k.tasks) ≡ 0
-  pub fit : fits (record_in (table k.tasks) r.task) r ≡ true
+  pub unplaced : Unplaced r.task k.tasks
+  pub fit : fits (record_in k.tasks r.task) r ≡ true
 
 starts_with : (r : Request) (q : List Request) → Some r ≡ first q → q ≡ r ∷ rest q
 starts_with r [] e = cc
@@ -171,17 +157,13 @@ first_request k unit r e =
     let w = one_same r.task in
     record {
       starts = s;
-      within = grind (arith, nat_tests);
-      nowhere = grind (arith, nat_tests);
-      fit = ∥∥₁_elim k.stands.state (Bool-set _ _) (λ h. (and_parts (fits (record_in (table k.tasks) r.task) r) (all_fit (table k.tasks) (rest q)) (sym (ap (all_fit (table k.tasks)) s) ∙ h.sound.requests (number_of unit))).0);
+      unplaced = record { within = grind (arith, nat_tests); nowhere = grind (arith, nat_tests) };
+      fit = ∥∥₁_elim k.stands.state (Bool-set _ _) (λ h. (and_parts (fits (record_in k.tasks r.task) r) (all_fit k.tasks (rest q)) (sym (ap (all_fit k.tasks) s) ∙ h.sound.requests (number_of unit))).0);
     }
 
 -- its record put anew, the task is nowhere still
-pub put : (k : Tables) (unit : UnitNumber) (r : Request) (y : Task) (a : Table) → First k unit r → a ≡ change r.task (λ _. y) (table k.tasks) → Left r.task a
-put k unit r y a h is =
-    let z = size-change r.task (λ _. y) (table k.tasks) in
-    let w = h.within in
-    subst (Left r.task) (sym is) (record { within = omega arith; nowhere = in_change r.task r.task (λ _. y) (table k.tasks) ∙ h.nowhere })
+pub put : (k : Tables) (unit : UnitNumber) (r : Request) (y : Task) (a : Table) → First k unit r → a ≡ change r.task (λ _. y) k.tasks → Unplaced r.task a
+put k unit r y a h is = rw is (changed_unplaced (λ _. y) h.unplaced)
 
 -- The start -------------------------------------------------------------------------------------------------------------------
 

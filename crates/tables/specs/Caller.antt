@@ -3,7 +3,6 @@ use Rattle.std.specs.Prelude.{◌≡◌, ℕ, ◌<◌, false, length, Some, None
 use Rattle.calls.specs.declared.refusal.Refusal.{Refusal}
 use Rattle.calls.specs.declared.refusal.Refusal.TheVariants.{NoTask}
 use Rattle.chain.specs.Lists.{has}
-use Rattle.tasks.specs.View.{table}
 use Rattle.clock.specs.View.{sleeping}
 use Rattle.cells.specs.View.{cells}
 use Rattle.queues.specs.Four.{queues}
@@ -14,9 +13,9 @@ use Rattle.tables.specs.declared.Tables.{Tables}
 
 -- the task that runs is one of the records and waits nowhere, and once stopped it is nowhere in the table
 pub record Caller (x : Tables) (t : ℕ) : Type 0 where
-  pub runs : Some t ≡ (table x.tasks).running
-  pub within : t < length (table x.tasks).tasks
-  pub stopped : in_table t (stop (table x.tasks)) ≡ 0
+  pub runs : Some t ≡ x.tasks.running
+  pub within : t < length x.tasks.tasks
+  pub stopped : in_table t (stop x.tasks) ≡ 0
   pub awake : has t (sleepers (sleeping x.waits)) ≡ false
   pub heard : has t (waiters (cells x.cells).waits) ≡ false
   pub served : has t (all_askers (queues x.queues)) ≡ false
@@ -24,4 +23,4 @@ pub record Caller (x : Tables) (t : ℕ) : Type 0 where
 -- no task runs
 pub record NoCaller (x : Tables) (r : Refusal) : Type 0 where
   pub refused : r ≡ NoTask
-  pub idle : None ≡ (table x.tasks).running
+  pub idle : None ≡ x.tasks.running

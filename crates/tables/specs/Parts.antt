@@ -5,7 +5,6 @@ use Rattle.tasks.specs.declared.Tasks.{Tasks}
 use Rattle.clock.specs.declared.ClockWaits.{ClockWaits}
 use Rattle.cells.specs.declared.Cells.{Cells}
 use Rattle.queues.specs.declared.four.Queues.{Queues}
-use Rattle.tasks.specs.View as tasks
 use Rattle.clock.specs.View as clock
 use Rattle.cells.specs.View as cells
 use Rattle.queues.specs.Four as queues
@@ -17,7 +16,7 @@ use Rattle.rules.specs.Laws.{Foremost}
 -- the state, over some units; where there is no clock, the rules have it read 0
 abbrev pub state_of : List Medium → Tasks → ClockWaits → Cells → Queues → Option ℕ → State
 state_of units table waits words requests reading = record {
-  table = tasks.table table;
+  table = table;
   sleeping = clock.sleeping waits;
   cells = cells.cells words;
   queues = queues.queues requests;

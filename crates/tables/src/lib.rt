@@ -1,5 +1,6 @@
 // The tables of the monitor: the task table, the waits at the clock, at the cells and at the units, and the clock. They mean
-// a state of the rules, whatever the units are. Each call of the monitor is a function over them, in a crate of its own.
+// a state of the rules, whatever the units are. Each call of the monitor is a function over them and no method, so that it
+// can stand in a crate of its own.
 #![tactic(auto)]
 
 ghost use Rattle.tables.specs.Parts.{StandsOf};

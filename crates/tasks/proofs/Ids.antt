@@ -1,8 +1,7 @@
 -- The record that has an id: the search for it, and what is found.
-use Rattle.std.proofs.Common.{◌≡◌, ℕ, ◌+◌, ◌<◌, ◌≤◌, true, false, cond, not, ◌&&◌, eqb, ◌≢◌, List, [], ◌∷◌, length, get_or, drop, Some, None, sym, ap, ◌∙◌, arith}
+use Rattle.std.proofs.Common.{◌≡◌, ℕ, ◌+◌, ◌<◌, ◌≤◌, true, false, cond, not, ◌&&◌, eqb, ◌≢◌, List, length, get_or, drop, Some, None, sym, ap, ◌∙◌}
 use Rattle.std.proofs.lemmas.List.{drop_more, drop_all}
 use Rattle.std.proofs.lemmas.Bool.{cond-true, cond-false, eq-eqb, ne_eqb}
-use Rattle.std.proofs.lemmas.Bool.Decides.{nat_tests}
 use Rattle.chain.specs.Lists.{has}
 use Rattle.rules.specs.State.{Table, Task, blank}
 use Rattle.rules.specs.Tables.{id_from, lookup}
@@ -25,14 +24,3 @@ lookup-zero id a e = sym (cond-true (eqb id 0) None (id_from 0 id a.free a.tasks
 
 pub lookup-some : (id : ℕ) (a : Table) → id ≢ 0 → lookup id a ≡ id_from 0 id a.free a.tasks
 lookup-some id a e = cond-false (eqb id 0) None (id_from 0 id a.free a.tasks) (ne_eqb id 0 e)
-
--- what is found has a record and is live
-id-live : (n id : ℕ) (free : List ℕ) (ts : List Task) (k : ℕ) → id_from n id free ts ≡ Some k → (k < n + length ts) × (has k free ≡ false)
-id-live n id free [] k e = let z : ◌≡◌ {A = ℕ} 0 1 = cc in absurd (omega arith)
-id-live n id free (t ∷ ts) k e =
-    let r : id_from (n + 1) id free ts ≡ Some k → (k < n + 1 + length ts) × (has k free ≡ false) = id-live (n + 1) id free ts k in
-    let here : Some n ≡ Some k → (n ≡ k) × (has n free ≡ has k free) = λ s. (let same : n ≡ k = cc in (same, ap (λ i. has i free) same)) in
-    (grind (arith, nat_tests), grind (arith, nat_tests))
-
-pub lookup-live : (id : ℕ) (a : Table) (k : ℕ) → Some k ≡ lookup id a → (k < length a.tasks) × (has k a.free ≡ false)
-lookup-live id a k e = let r = id-live 0 id a.free a.tasks k in (grind (arith, nat_tests), grind (arith, nat_tests))

@@ -13,18 +13,23 @@ use Rattle.rules.specs.State as rules
 use Rattle.rules.specs.State.{Table, begin_table, blank, record_in, with_free, with_ready, with_suspended}
 use Rattle.rules.specs.Tables.{change, choose, link, put_free, stop, suspend, take_free, take_out, unsuspend}
 use Rattle.tasks.specs.declared.task.Task.{Task}
-use Rattle.tasks.specs.declared.Tasks.{Tasks}
-use Rattle.tasks.specs.Parts.{AllEnd, Placed, as_task, table_of}
+use Rattle.tasks.specs.declared.Tasks.TheInside.{Inside}
+use Rattle.tasks.specs.Parts.{AllEnd, Intact, Placed, Unplaced, as_task, table_of}
 use Rattle.rules.specs.Sound.{in_table}
-use Rattle.tasks.specs.View.{table}
-use Rattle.tasks.proofs.Places.{in_link, in_put_free, in_suspend, rest-rising}
+use Rattle.rules.proofs.Counts.{in_link, in_put_free, in_suspend}
+use Rattle.tasks.proofs.Places.{rest-rising}
 use Rattle.tasks.proofs.Placing.{at_most_one, placed-begin, placed-change, placed-choose, placed-link, placed-put_free, placed-stop, placed-suspend, placed-take_free, placed-take_out, placed-unsuspend}
+
+abbrev view : Inside → Table
+view x = table_of x.links x.free x.ready x.suspended x.running
+
+abbrev Kept : Inside → Type 0
+Kept x = Intact x.links x.free x.ready x.suspended x.running
 
 -- parts that stand for the table a as they must
 pub record Stand (links : Links Task) (free ready suspended running : Option ℕ) (a : Table) : Type 0 where
-  pub ends : AllEnd (nexts links) free ready suspended
   pub is : table_of links free ready suspended running ≡ a
-  pub placed : Placed (table_of links free ready suspended running)
+  pub kept : Intact links free ready suspended running
 
 -- equal parts make equal tables
 table_eq : {ts us : List rules.Task} {f g r q s z : List ℕ} {run now : Option ℕ} → ts ≡ us → f ≡ g → run ≡ now → r ≡ q → s ≡ z
@@ -38,137 +43,143 @@ levels (x ∷ xs) = ap (λ l. x.level ∷ l) (levels xs)
 
 -- ── reading ──
 
-module _ (x : Tasks) where
-  pub size : length (table x).tasks ≡ length (nexts x.links)
+module _ (x : Inside) where
+  pub size : length (view x).tasks ≡ length (nexts x.links)
   unfolding table_of
   size = length-map (records x.links) as_task ∙ as_many x.links
 
-  pub record_is : (t : ℕ) (y : Task) → t < length (nexts x.links) → ((none : Task) → y ≡ get_or (records x.links) t none) → as_task y ≡ record_in (table x) t
-  unfolding table_of
-  record_is t y within is = ap as_task (is y) ∙ sym (get_or-map as_task (records x.links) t y blank (omega (arith, as_many x.links)))
+  pub within-links : (t : ℕ) → t < length (view x).tasks → t < length (nexts x.links)
+  within-links t within = omega (arith, size)
 
-  pub first-free-is : x.free ≡ first (table x).free
+  pub record_is : (t : ℕ) (y : Task) → t < length (view x).tasks → ((none : Task) → y ≡ get_or (records x.links) t none) → as_task y ≡ record_in (view x) t
   unfolding table_of
-  first-free-is = sym (head_is (nexts x.links) x.free x.ends.0)
+  record_is t y within is = ap as_task (is y) ∙ sym (get_or-map as_task (records x.links) t y blank (omega (arith, size, as_many x.links)))
+
+  -- a record that is nowhere is on no chain
+  module _ (t : ℕ) (u : Unplaced t (view x)) where
+    pub not-ready : has t (chain (nexts x.links) x.ready) ≡ false
+    unfolding table_of in_table
+    not-ready = count_none t (chain (nexts x.links) x.ready) (let n = u.nowhere in omega arith)
+
+    pub not-suspended : has t (chain (nexts x.links) x.suspended) ≡ false
+    unfolding table_of in_table
+    not-suspended = count_none t (chain (nexts x.links) x.suspended) (let n = u.nowhere in omega arith)
+
+    pub not_free : has t (chain (nexts x.links) x.free) ≡ false
+    unfolding table_of in_table
+    not_free = count_none t (chain (nexts x.links) x.free) (let n = u.nowhere in omega arith)
+
+pub runs-is : (x : Inside) → x.running ≡ (view x).running
+unfolding table_of
+runs-is x = refl
+
+pub first-free-is : (x : Inside) → Kept x → x.free ≡ first (view x).free
+unfolding table_of
+first-free-is x w = sym (head_is (nexts x.links) x.free w.ends.0)
 
 -- ── one chain written anew ──
 
-module _ (x : Tasks) (b : Links Task) (h : Option ℕ) (xs touched : List ℕ) (recs : records b ≡ records x.links) (u : Relinked (nexts x.links) (nexts b) h xs touched) where
+module _ (x : Inside) (w : Kept x) (b : Links Task) (h : Option ℕ) (xs touched : List ℕ) (recs : records b ≡ records x.links) (u : Relinked (nexts x.links) (nexts b) h xs touched) where
   kept : (g : Option ℕ) → Ends (nexts x.links) g → ((k : ℕ) → count k (chain (nexts x.links) g) + count k touched ≤ 1) → Ends (nexts b) g × (chain (nexts b) g ≡ chain (nexts x.links) g)
   kept g e few = u.others g e (apart_from (chain (nexts x.links) g) touched few)
 
   module _ (a : Table) (p : Placed a) where
-    written-ready : ((k : ℕ) → in_table k (table x) + count k touched ≤ 1 + count k (table x).ready) → with_ready xs (table x) ≡ a → Stand b x.free h x.suspended x.running a
+    written-ready : ((k : ℕ) → in_table k (view x) + count k touched ≤ 1 + count k (view x).ready) → with_ready xs (view x) ≡ a → Stand b x.free h x.suspended x.running a
     unfolding table_of in_table
     written-ready few e =
-        let f = kept x.free x.ends.0 (λ k. omega (arith, few k)) in
-        let s = kept x.suspended x.ends.2 (λ k. omega (arith, few k)) in
+        let f = kept x.free w.ends.0 (λ k. omega (arith, few k)) in
+        let s = kept x.suspended w.ends.2 (λ k. omega (arith, few k)) in
         let is = table_eq (ap (map as_task) recs) f.1 refl u.list s.1 ∙ e in
-        record { ends = (f.0, u.ends, s.0); is = is; placed = subst Placed (sym is) p }
+        record { is = is; kept = record { ends = (f.0, u.ends, s.0); placed = subst Placed (sym is) p } }
 
-    written-suspended : ((k : ℕ) → in_table k (table x) + count k touched ≤ 1 + count k (table x).suspended) → with_suspended xs (table x) ≡ a → Stand b x.free x.ready h x.running a
+    written-suspended : ((k : ℕ) → in_table k (view x) + count k touched ≤ 1 + count k (view x).suspended) → with_suspended xs (view x) ≡ a → Stand b x.free x.ready h x.running a
     unfolding table_of in_table
     written-suspended few e =
-        let f = kept x.free x.ends.0 (λ k. omega (arith, few k)) in
-        let r = kept x.ready x.ends.1 (λ k. omega (arith, few k)) in
+        let f = kept x.free w.ends.0 (λ k. omega (arith, few k)) in
+        let r = kept x.ready w.ends.1 (λ k. omega (arith, few k)) in
         let is = table_eq (ap (map as_task) recs) f.1 refl r.1 u.list ∙ e in
-        record { ends = (f.0, r.0, u.ends); is = is; placed = subst Placed (sym is) p }
+        record { is = is; kept = record { ends = (f.0, r.0, u.ends); placed = subst Placed (sym is) p } }
 
-    written-free : ((k : ℕ) → in_table k (table x) + count k touched ≤ 1 + count k (table x).free) → with_free xs (table x) ≡ a → Stand b h x.ready x.suspended x.running a
+    written-free : ((k : ℕ) → in_table k (view x) + count k touched ≤ 1 + count k (view x).free) → with_free xs (view x) ≡ a → Stand b h x.ready x.suspended x.running a
     unfolding table_of in_table
     written-free few e =
-        let r = kept x.ready x.ends.1 (λ k. omega (arith, few k)) in
-        let s = kept x.suspended x.ends.2 (λ k. omega (arith, few k)) in
+        let r = kept x.ready w.ends.1 (λ k. omega (arith, few k)) in
+        let s = kept x.suspended w.ends.2 (λ k. omega (arith, few k)) in
         let is = table_eq (ap (map as_task) recs) u.list refl r.1 s.1 ∙ e in
-        record { ends = (u.ends, r.0, s.0); is = is; placed = subst Placed (sym is) p }
+        record { is = is; kept = record { ends = (u.ends, r.0, s.0); placed = subst Placed (sym is) p } }
 
 -- ── a record that is nowhere goes into a chain ──
 
-module _ (x : Tasks) (t : ℕ) (within : t < length (table x).tasks) (nowhere : in_table t (table x) ≡ 0) where
-  pub within-links : t < length (nexts x.links)
-  within-links = omega (arith, size x)
-
-  pub not-ready : has t (chain (nexts x.links) x.ready) ≡ false
-  unfolding table_of in_table
-  not-ready = count_none t (chain (nexts x.links) x.ready) (omega arith)
-
-  pub not-suspended : has t (chain (nexts x.links) x.suspended) ≡ false
-  unfolding table_of in_table
-  not-suspended = count_none t (chain (nexts x.links) x.suspended) (omega arith)
-
-  pub not_free : has t (chain (nexts x.links) x.free) ≡ false
-  unfolding table_of in_table
-  not_free = count_none t (chain (nexts x.links) x.free) (omega arith)
-
+module _ (x : Inside) (w : Kept x) (t : ℕ) (un : Unplaced t (view x)) where
   module _ (b : Links Task) (h : Option ℕ) (recs : records b ≡ records x.links) where
     pub linked : Relinked (nexts x.links) (nexts b) h (join (rank_in (λ y. y.level) (records x.links)) t (chain (nexts x.links) x.ready)) (t ∷ chain (nexts x.links) x.ready)
-        → Stand b x.free h x.suspended x.running (link t (table x))
+        → Stand b x.free h x.suspended x.running (link t (view x))
     unfolding table_of link
     linked u =
-        let p = placed-link (table x) x.placed t within nowhere in
-        written-ready x b h _ (t ∷ chain (nexts x.links) x.ready) recs u (link t (table x)) p
-        (λ k. omega (arith, in_link k t (table x), at_most_one (link t (table x)) p k))
-        (ap (λ (ls : List ℕ). with_ready (join (λ k. get_or ls k 0) t (chain (nexts x.links) x.ready)) (table x)) (levels (records x.links)))
+        let p = placed-link (view x) w.placed t un in
+        written-ready x w b h _ (t ∷ chain (nexts x.links) x.ready) recs u (link t (view x)) p
+        (λ k. omega (arith, in_link k t (view x), at_most_one (link t (view x)) p k))
+        (ap (λ (ls : List ℕ). with_ready (join (λ k. get_or ls k 0) t (chain (nexts x.links) x.ready)) (view x)) (levels (records x.links)))
 
     pub suspended : Relinked (nexts x.links) (nexts b) h (t ∷ chain (nexts x.links) x.suspended) (t ∷ chain (nexts x.links) x.suspended)
-        → Stand b x.free x.ready h x.running (suspend t (table x))
+        → Stand b x.free x.ready h x.running (suspend t (view x))
     unfolding table_of suspend
     suspended u =
-        let p = placed-suspend (table x) x.placed t within nowhere in
-        written-suspended x b h _ (t ∷ chain (nexts x.links) x.suspended) recs u (suspend t (table x)) p
-        (λ k. omega (arith, in_suspend k t (table x), at_most_one (suspend t (table x)) p k)) refl
+        let p = placed-suspend (view x) w.placed t un in
+        written-suspended x w b h _ (t ∷ chain (nexts x.links) x.suspended) recs u (suspend t (view x)) p
+        (λ k. omega (arith, in_suspend k t (view x), at_most_one (suspend t (view x)) p k)) refl
 
     pub freed : Relinked (nexts x.links) (nexts b) h (t ∷ chain (nexts x.links) x.free) (t ∷ chain (nexts x.links) x.free)
-        → Stand b h x.ready x.suspended x.running (put_free t (table x))
+        → Stand b h x.ready x.suspended x.running (put_free t (view x))
     unfolding table_of put_free
     freed u =
-        let p = placed-put_free (table x) x.placed t within nowhere in
-        written-free x b h _ (t ∷ chain (nexts x.links) x.free) recs u (put_free t (table x)) p
-        (λ k. omega (arith, in_put_free k t (table x), at_most_one (put_free t (table x)) p k)) refl
+        let p = placed-put_free (view x) w.placed t un in
+        written-free x w b h _ (t ∷ chain (nexts x.links) x.free) recs u (put_free t (view x)) p
+        (λ k. omega (arith, in_put_free k t (view x), at_most_one (put_free t (view x)) p k)) refl
 
 -- ── a record leaves a chain ──
 
-module _ (x : Tasks) (t : ℕ) (b : Links Task) (h : Option ℕ) (recs : records b ≡ records x.links) where
+module _ (x : Inside) (w : Kept x) (t : ℕ) (b : Links Task) (h : Option ℕ) (recs : records b ≡ records x.links) where
   pub taken_out : Relinked (nexts x.links) (nexts b) h (without t (chain (nexts x.links) x.ready)) (chain (nexts x.links) x.ready)
-      → Stand b x.free h x.suspended x.running (take_out t (table x))
+      → Stand b x.free h x.suspended x.running (take_out t (view x))
   unfolding table_of take_out
   taken_out u =
-      written-ready x b h _ (chain (nexts x.links) x.ready) recs u (take_out t (table x)) (placed-take_out (table x) x.placed t)
-      (λ k. omega (arith, at_most_one (table x) x.placed k)) refl
+      written-ready x w b h _ (chain (nexts x.links) x.ready) recs u (take_out t (view x)) (placed-take_out (view x) w.placed t)
+      (λ k. omega (arith, at_most_one (view x) w.placed k)) refl
 
   pub unsuspended : Relinked (nexts x.links) (nexts b) h (without t (chain (nexts x.links) x.suspended)) (chain (nexts x.links) x.suspended)
-      → Stand b x.free x.ready h x.running (unsuspend t (table x))
+      → Stand b x.free x.ready h x.running (unsuspend t (view x))
   unfolding table_of unsuspend
   unsuspended u =
-      written-suspended x b h _ (chain (nexts x.links) x.suspended) recs u (unsuspend t (table x)) (placed-unsuspend (table x) x.placed t)
-      (λ k. omega (arith, at_most_one (table x) x.placed k)) refl
+      written-suspended x w b h _ (chain (nexts x.links) x.suspended) recs u (unsuspend t (view x)) (placed-unsuspend (view x) w.placed t)
+      (λ k. omega (arith, at_most_one (view x) w.placed k)) refl
 
-module _ (x : Tasks) (h : Option ℕ) (ends : Ends (nexts x.links) h) where
-  pub free-taken : chain (nexts x.links) h ≡ rest (chain (nexts x.links) x.free) → Stand x.links h x.ready x.suspended x.running (take_free (table x))
+module _ (x : Inside) (w : Kept x) (h : Option ℕ) (ends : Ends (nexts x.links) h) where
+  pub free-taken : chain (nexts x.links) h ≡ rest (chain (nexts x.links) x.free) → Stand x.links h x.ready x.suspended x.running (take_free (view x))
   unfolding table_of take_free
   free-taken list =
       let is = table_eq refl list refl refl refl in
-      record { ends = (ends, x.ends.1, x.ends.2); is = is; placed = subst Placed (sym is) (placed-take_free (table x) x.placed) }
+      record { is = is; kept = record { ends = (ends, w.ends.1, w.ends.2); placed = subst Placed (sym is) (placed-take_free (view x) w.placed) } }
 
   pub chosen : (r : Option ℕ) → r ≡ first (chain (nexts x.links) x.ready) → chain (nexts x.links) h ≡ rest (chain (nexts x.links) x.ready)
-      → Stand x.links x.free h x.suspended r (choose (table x))
+      → Stand x.links x.free h x.suspended r (choose (view x))
   unfolding table_of choose
   chosen r first list =
       let is = table_eq refl refl first list refl in
-      record { ends = (x.ends.0, ends, x.ends.2); is = is; placed = subst Placed (sym is) (placed-choose (table x) x.placed) }
+      record { is = is; kept = record { ends = (w.ends.0, ends, w.ends.2); placed = subst Placed (sym is) (placed-choose (view x) w.placed) } }
 
 -- ── the running task and one record ──
 
-pub stopped : (x : Tasks) → Stand x.links x.free x.ready x.suspended None (stop (table x))
+pub stopped : (x : Inside) (w : Kept x) → Stand x.links x.free x.ready x.suspended None (stop (view x))
 unfolding table_of stop
-stopped x = record { ends = x.ends; is = refl; placed = placed-stop (table x) x.placed }
+stopped x w = record { is = refl; kept = record { ends = w.ends; placed = placed-stop (view x) w.placed } }
 
-pub replaced : (x : Tasks) (t : ℕ) (y : Task) (b : Links Task) → nexts b ≡ nexts x.links → records b ≡ set (records x.links) t y
-    → Stand b x.free x.ready x.suspended x.running (change t (λ _. as_task y) (table x))
+pub replaced : (x : Inside) (w : Kept x) (t : ℕ) (y : Task) (b : Links Task) → nexts b ≡ nexts x.links → records b ≡ set (records x.links) t y
+    → Stand b x.free x.ready x.suspended x.running (change t (λ _. as_task y) (view x))
 unfolding table_of change
-replaced x t y b next recs =
+replaced x w t y b next recs =
     let is = table_eq (ap (map as_task) recs ∙ map-set as_task (records x.links) t y) (ap (λ n. chain n x.free) next) refl (ap (λ n. chain n x.ready) next) (ap (λ n. chain n x.suspended) next) in
-    record { ends = subst (λ n. AllEnd n x.free x.ready x.suspended) (sym next) x.ends; is = is; placed = subst Placed (sym is) (placed-change (table x) x.placed t (λ _. as_task y)) }
+    record { is = is; kept = record { ends = subst (λ n. AllEnd n x.free x.ready x.suspended) (sym next) w.ends; placed = subst Placed (sym is) (placed-change (view x) w.placed t (λ _. as_task y)) } }
 
 -- a record that is what a change makes of the former one
 pub change_as : (t : ℕ) (f : rules.Task → rules.Task) (x : rules.Task) (a : Table) → x ≡ f (record_in a t) → change t (λ _. x) a ≡ change t f a
@@ -183,4 +194,4 @@ unfolding table_of
 begun b h n m y some same is recs ends list =
     let free = list ∙ ap (λ i. rising 1 (i - 1)) same ∙ sym (rest-rising n some) in
     let e = table_eq (ap (map as_task) recs ∙ map-replicate as_task n y ∙ ap (replicate n) is) free refl (chain-none (nexts b)) (chain-none (nexts b)) in
-    record { ends = (ends, ends-none (nexts b), ends-none (nexts b)); is = e; placed = subst Placed (sym e) (placed-begin n some) }
+    record { is = e; kept = record { ends = (ends, ends-none (nexts b), ends-none (nexts b)); placed = subst Placed (sym e) (placed-begin n some) } }

@@ -1,5 +1,5 @@
 -- What the parts of a task table stand for, and what is kept of them. Nothing here names the struct that has these parts.
-use Rattle.std.specs.Prelude.{ℕ, ◌≤◌, cond, List, map, length, take, Option, nat_lt}
+use Rattle.std.specs.Prelude.{◌≡◌, ℕ, ◌<◌, ◌≤◌, cond, List, map, length, Option, nat_lt}
 use Rattle.chain.specs.declared.Links.{Links}
 use Rattle.chain.specs.Chains.{Ends, chain, nexts, records}
 use Rattle.rules.specs.Sound.{in_table}
@@ -21,6 +21,11 @@ table_of links free ready suspended running = record {
   suspended = chain (nexts links) suspended;
 }
 
+-- t is one of the records and stands nowhere in the table, so it can be placed
+pub record Unplaced (t : ℕ) (a : Table) : Type 0 where
+  pub within : t < length a.tasks
+  pub nowhere : in_table t a ≡ 0
+
 -- each of the three chains ends
 abbrev pub AllEnd : List (Option ℕ) → Option ℕ → Option ℕ → Option ℕ → Type 0
 AllEnd ns free ready suspended = Ends ns free × Ends ns ready × Ends ns suspended
@@ -28,3 +33,8 @@ AllEnd ns free ready suspended = Ends ns free × Ends ns ready × Ends ns suspen
 -- every record stands at one place of the table at most, and nothing else stands there
 abbrev pub Placed : Table → Type 0
 Placed a = (k : ℕ) → in_table k a ≤ cond (nat_lt k (length a.tasks)) 1 0
+
+-- what is kept of the parts of every table
+pub record Intact (links : Links Task) (free ready suspended running : Option ℕ) : Type 0 where
+  pub ends : AllEnd (nexts links) free ready suspended
+  pub placed : Placed (table_of links free ready suspended running)

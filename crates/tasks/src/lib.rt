@@ -2,8 +2,8 @@
 // Each method does one thing that the rules do to a table, and promises the rule's own name for it.
 #![tactic(auto)]
 
-ghost use Rattle.chain.specs.Chains.{nexts};
-ghost use Rattle.tasks.specs.Parts.{AllEnd, Placed, table_of};
+ghost use Rattle.rules.specs.State.{Table};
+ghost use Rattle.tasks.specs.Parts.{Intact, table_of};
 
 mod chains;
 mod making;
@@ -14,6 +14,7 @@ mod task;
 mod turns;
 
 use chain::Links;
+use std::marker::Model;
 pub use task::Task;
 
 #[derive(Drop)]
@@ -23,6 +24,13 @@ pub struct Tasks {
     ready: Option<usize>,
     suspended: Option<usize>,
     running: Option<usize>,
-    ghost ends: { AllEnd (nexts links) free ready suspended },
-    ghost placed: { Placed (table_of links free ready suspended running) },
+}
+
+// A task table means a table of the rules.
+impl Model for Tasks {
+    ghost Value = { Table };
+
+    ghost view = { λ x. table_of x.links x.free x.ready x.suspended x.running };
+
+    ghost invariant = { λ x. Intact x.links x.free x.ready x.suspended x.running };
 }

@@ -4,7 +4,6 @@ ghost use Rattle.std.specs.Prelude.{◌≡◌, ◌≤◌, IfOk};
 ghost use Rattle.rules.specs.Records.{new_task};
 ghost use Rattle.rules.specs.State.{begin_table};
 ghost use Rattle.tasks.specs.Parts.{as_task};
-ghost use Rattle.tasks.specs.View.{table};
 
 use crate::{Task, Tasks};
 use buffer::Buffer;
@@ -33,7 +32,7 @@ impl Tasks {
     // A table of `n` records: record 0 runs, and the others are free in rising order. An error where memory is wanting.
     pub fn of(heap: Global, n: usize) -> Result<Tasks, AllocError>
         requires { 1 ≤ n }
-        ensures { IfOk result (λ x. table x ≡ begin_table n) }
+        ensures { IfOk result (λ x. x ≡ begin_table n) }
     {
         let mut links = Links::of(heap, n, Task::new(0, 0, 0, 0))?;
         let free = links.link_all_but_first();

@@ -3,17 +3,16 @@
 ghost use Rattle.std.specs.Prelude.{◌≡◌, ◌<◌, false, ◌≢◌, length, Some};
 ghost use Rattle.chain.specs.Lists.{has};
 ghost use Rattle.rules.specs.Tables.{kill_other, level_other, ready_other, suspend_other};
-ghost use Rattle.tasks.specs.View.{table};
 
 use crate::Tasks;
 
 impl Tasks {
     // Task `k`, which is live, does not run and waits no more, leaves its chain; its record is cleared and freed.
     pub fn kill_other(&mut self, k: usize)
-        requires within { k < length (table self.old).tasks }
-        requires live { has k (table self.old).free ≡ false }
-        requires other { (table self.old).running ≢ Some k }
-        ensures { table self.new ≡ kill_other k (table self.old) }
+        requires within { k < length self.old.tasks }
+        requires live { has k self.old.free ≡ false }
+        requires other { self.old.running ≢ Some k }
+        ensures { self.new ≡ kill_other k self.old }
     {
         self.take_out(k);
         self.unsuspend(k);
@@ -22,8 +21,8 @@ impl Tasks {
 
     // Task `k` gets a mark; a ready task is taken out and suspended.
     pub fn suspend_other(&mut self, k: usize)
-        requires { k < length (table self.old).tasks }
-        ensures { table self.new ≡ suspend_other k (table self.old) }
+        requires { k < length self.old.tasks }
+        ensures { self.new ≡ suspend_other k self.old }
     {
         self.set_mark(k, true);
         if self.is_ready(k) {
@@ -34,8 +33,8 @@ impl Tasks {
 
     // Task `k` loses its mark; a suspended task is linked.
     pub fn ready_other(&mut self, k: usize)
-        requires { k < length (table self.old).tasks }
-        ensures { table self.new ≡ ready_other k (table self.old) }
+        requires { k < length self.old.tasks }
+        ensures { self.new ≡ ready_other k self.old }
     {
         self.set_mark(k, false);
         if self.is_suspended(k) {
@@ -46,8 +45,8 @@ impl Tasks {
 
     // Task `k` gets a level; a ready task is taken out and linked.
     pub fn level_other(&mut self, k: usize, level: u8)
-        requires { k < length (table self.old).tasks }
-        ensures { table self.new ≡ level_other k level (table self.old) }
+        requires { k < length self.old.tasks }
+        ensures { self.new ≡ level_other k level self.old }
     {
         self.set_level(k, level);
         if self.is_ready(k) {

@@ -4,54 +4,53 @@ ghost use Rattle.std.specs.Prelude.{◌≡◌, ◌<◌, length};
 ghost use Rattle.chain.specs.Lists.{first, has};
 ghost use Rattle.rules.specs.State.{record_in};
 ghost use Rattle.tasks.specs.Parts.{as_task};
-ghost use Rattle.tasks.specs.View.{table};
 
 use crate::{Task, Tasks};
 
 impl Tasks {
     // The number of records.
     pub fn count(&self) -> usize
-        ensures { result ≡ length (table self.now).tasks }
+        ensures { result ≡ length self.now.tasks }
     {
         self.links.len()
     }
 
     // The record with the number `t`.
     pub fn task(&self, t: usize) -> &Task
-        requires { t < length (table self.now).tasks }
-        ensures { as_task result.now ≡ record_in (table self.now) t }
+        requires { t < length self.now.tasks }
+        ensures { as_task result.now ≡ record_in self.now t }
     {
         self.links.record_at(t)
     }
 
     // The task that runs, if one does.
     pub fn running(&self) -> Option<usize>
-        ensures { result ≡ (table self.now).running }
+        ensures { result ≡ self.now.running }
     {
         self.running
     }
 
     // The first free record, if there is one.
     pub fn first_free(&self) -> Option<usize>
-        ensures { result ≡ first (table self.now).free }
+        ensures { result ≡ first self.now.free }
     {
         self.free
     }
 
     pub fn is_free(&self, t: usize) -> bool
-        ensures { result ≡ has t (table self.now).free }
+        ensures { result ≡ has t self.now.free }
     {
         self.links.is_on(self.free, t)
     }
 
     pub fn is_ready(&self, t: usize) -> bool
-        ensures { result ≡ has t (table self.now).ready }
+        ensures { result ≡ has t self.now.ready }
     {
         self.links.is_on(self.ready, t)
     }
 
     pub fn is_suspended(&self, t: usize) -> bool
-        ensures { result ≡ has t (table self.now).suspended }
+        ensures { result ≡ has t self.now.suspended }
     {
         self.links.is_on(self.suspended, t)
     }

@@ -3,60 +3,48 @@
 ghost use Rattle.std.specs.Prelude.{◌≡◌, ◌<◌, not, ◌&&◌, length, ◌==◌};
 ghost use Rattle.chain.specs.Lists.{has};
 ghost use Rattle.rules.specs.State.{record_in, with_level, with_mark, with_word};
-ghost use Rattle.rules.specs.Tables.{change, clear, fill, lookup};
-ghost use Rattle.tasks.specs.Parts.{as_task};
-ghost use Rattle.rules.specs.Sound.{in_table};
-ghost use Rattle.tasks.specs.View.{table};
+ghost use Rattle.rules.specs.Tables.{change, clear, lookup};
+ghost use Rattle.tasks.specs.Parts.{Unplaced, as_task};
 
 use crate::{Task, Tasks};
 
 impl Tasks {
     // Puts another record in the place of that with the number `t`.
     pub fn replace(&mut self, t: usize, with: Task)
-        requires { t < length (table self.old).tasks }
-        ensures { table self.new ≡ change t (λ _. as_task with) (table self.old) }
+        requires { t < length self.old.tasks }
+        ensures { self.new ≡ change t (λ _. as_task with) self.old }
     {
         self.links.replace(t, with);
     }
 
     pub fn give_word(&mut self, t: usize, word: u16)
-        requires { t < length (table self.old).tasks }
-        ensures { table self.new ≡ change t (with_word word) (table self.old) }
+        requires { t < length self.old.tasks }
+        ensures { self.new ≡ change t (with_word word) self.old }
     {
         let task = *self.task(t);
         self.replace(t, Task { word, ..task });
     }
 
     pub fn set_level(&mut self, t: usize, level: u8)
-        requires { t < length (table self.old).tasks }
-        ensures { table self.new ≡ change t (with_level level) (table self.old) }
+        requires { t < length self.old.tasks }
+        ensures { self.new ≡ change t (with_level level) self.old }
     {
         let task = *self.task(t);
         self.replace(t, Task { level, ..task });
     }
 
     pub fn set_mark(&mut self, t: usize, mark: bool)
-        requires { t < length (table self.old).tasks }
-        ensures { table self.new ≡ change t (with_mark mark) (table self.old) }
+        requires { t < length self.old.tasks }
+        ensures { self.new ≡ change t (with_mark mark) self.old }
     {
         let task = *self.task(t);
         self.replace(t, Task { mark, ..task });
     }
 
-    // Fills the record `k` as the first free one, which leaves the free chain.
-    pub(crate) fn fill(&mut self, k: usize, with: Task)
-        requires { k < length (table self.old).tasks }
-        ensures { table self.new ≡ fill k (as_task with) (table self.old) }
-    {
-        self.take_free();
-        self.replace(k, with);
-    }
-
     // Clears the record `t`, which is nowhere, and frees it.
     pub fn clear(&mut self, t: usize)
-        requires within { t < length (table self.old).tasks }
-        requires nowhere { in_table t (table self.old) ≡ 0 }
-        ensures { table self.new ≡ clear t (table self.old) }
+        requires { Unplaced t self.old }
+        ensures { self.new ≡ clear t self.old }
     {
         self.replace(t, Task::new(0, 0, 0, 0));
         self.put_free(t);
@@ -64,15 +52,15 @@ impl Tasks {
 
     // Whether the record `t` is that of a live task with the id.
     fn is_named(&self, t: usize, id: u8) -> bool
-        requires { t < length (table self.now).tasks }
-        ensures { result ≡ ((record_in (table self.now) t).id == id && not (has t (table self.now).free)) }
+        requires { t < length self.now.tasks }
+        ensures { result ≡ ((record_in self.now t).id == id && not (has t self.now.free)) }
     {
         self.task(t).id == id && !self.is_free(t)
     }
 
     // The live task with the id, if the id is not 0 and one has it.
     pub fn find(&self, id: u8) -> Option<usize>
-        ensures { result ≡ lookup id (table self.now) }
+        ensures { result ≡ lookup id self.now }
     {
         if id == 0 {
             return None;

@@ -3,18 +3,15 @@
 ghost use Rattle.std.specs.Prelude.{◌≡◌, ◌<◌, length, Some};
 ghost use Rattle.chain.specs.Lists.{first};
 ghost use Rattle.rules.specs.Tables.{choose, fill, hand, link, release, stop, turn};
-ghost use Rattle.tasks.specs.Parts.{as_task};
-ghost use Rattle.rules.specs.Sound.{in_table};
-ghost use Rattle.tasks.specs.View.{table};
+ghost use Rattle.tasks.specs.Parts.{Unplaced, as_task};
 
 use crate::{Task, Tasks};
 
 impl Tasks {
     // Task `t`, whose wait is over and which is nowhere, is suspended if it has a mark, and linked otherwise.
     pub fn release(&mut self, t: usize)
-        requires within { t < length (table self.old).tasks }
-        requires nowhere { in_table t (table self.old) ≡ 0 }
-        ensures { table self.new ≡ release t (table self.old) }
+        requires { Unplaced t self.old }
+        ensures { self.new ≡ release t self.old }
     {
         if self.task(t).mark {
             self.suspend(t);
@@ -25,9 +22,8 @@ impl Tasks {
 
     // Task `t`, which waited for a message and is nowhere, gets it and is released.
     pub fn hand(&mut self, message: u16, t: usize)
-        requires within { t < length (table self.old).tasks }
-        requires nowhere { in_table t (table self.old) ≡ 0 }
-        ensures { table self.new ≡ hand message t (table self.old) }
+        requires { Unplaced t self.old }
+        ensures { self.new ≡ hand message t self.old }
     {
         self.give_word(t, message);
         self.release(t);
@@ -35,7 +31,7 @@ impl Tasks {
 
     // The running task is linked, if there is one, and then one is chosen.
     pub fn turn(&mut self)
-        ensures { table self.new ≡ turn (table self.old) }
+        ensures { self.new ≡ turn self.old }
     {
         if let Some(caller) = self.running() {
             self.stop();
@@ -46,11 +42,12 @@ impl Tasks {
 
     // The running task `caller` makes the first free record `k` a task: `caller` is linked, then `k`, and one is chosen.
     pub fn start_task(&mut self, caller: usize, k: usize, with: Task)
-        requires running { (table self.old).running ≡ Some caller }
-        requires free { first (table self.old).free ≡ Some k }
-        ensures { table self.new ≡ choose (link k (link caller (stop (fill k (as_task with) (table self.old))))) }
+        requires running { self.old.running ≡ Some caller }
+        requires free { first self.old.free ≡ Some k }
+        ensures { self.new ≡ choose (link k (link caller (stop (fill k (as_task with) self.old)))) }
     {
-        self.fill(k, with);
+        self.take_free();
+        self.replace(k, with);
         self.stop();
         self.link(caller);
         self.link(k);

@@ -13,7 +13,6 @@ use Rattle.queues.specs.declared.number.UnitNumber.TheVariants.{Unit0, Unit1, Un
 use Rattle.queues.specs.Four.{queue_at, queues}
 use Rattle.queues.specs.Number.{number_of, told}
 use Rattle.tasks.specs.declared.Tasks.{Tasks}
-use Rattle.tasks.specs.View.{table}
 use Rattle.tasks.proofs.Tables.{change_as}
 use Rattle.unit.specs.Medium.{Medium}
 use Rattle.rules.specs.State.{State, Table, Task, record_in, with_transfer}
@@ -77,10 +76,10 @@ module _ {k : Tables} {t : ℕ} {at : UnitNumber} (unit : ℕ) (x : Transfer (Li
   refused {r = r} e = is (state us k) (Err r) (apply (call.Transfer unit x) (state us k)) (refuse r (state us k)) (asked_of ∙ ap (asks t (number_of at) (state us k)) (sym e)) refl refl
 
   module _ {w : Wanted} {a b : Table} {y z : Task} (tasks : Tasks) (requests : Queues) (e : Ok w ≡ wanted x) where
-    pub granted : a ≡ stop (table k.tasks) → z ≡ record_in a t → y ≡ with_transfer w.kind w.bytes z → b ≡ change t (λ _. y) a → table tasks ≡ turn b
+    pub granted : a ≡ stop k.tasks → z ≡ record_in a t → y ≡ with_transfer w.kind w.bytes z → b ≡ change t (λ _. y) a → tasks ≡ turn b
         → queues requests ≡ set (queues k.queues) (number_of at) (enqueue (record { task = t; size = w.size; moved = 0 }) (queue_at at k.queues))
         → Is (state_of us tasks k.waits k.cells requests k.clock) (Ok 0) (apply (call.Transfer unit x) (state us k))
     granted h n f g o q =
-        let v : table tasks ≡ turn (change t (with_transfer w.kind w.bytes) (stop (table k.tasks))) = o ∙ ap turn (g ∙ change_as t (with_transfer w.kind w.bytes) y a (f ∙ ap (with_transfer w.kind w.bytes) n) ∙ ap (change t (with_transfer w.kind w.bytes)) h) in
+        let v : tasks ≡ turn (change t (with_transfer w.kind w.bytes) (stop k.tasks)) = o ∙ ap turn (g ∙ change_as t (with_transfer w.kind w.bytes) y a (f ∙ ap (with_transfer w.kind w.bytes) n) ∙ ap (change t (with_transfer w.kind w.bytes)) h) in
         is (state_of us tasks k.waits k.cells requests k.clock) (Ok 0) (apply (call.Transfer unit x) (state us k)) (asking t (number_of at) w.kind w.bytes w.size (state us k))
         (asked_of ∙ ap (asks t (number_of at) (state us k)) (sym e)) (cc) refl

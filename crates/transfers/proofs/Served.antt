@@ -14,7 +14,6 @@ use Rattle.queues.specs.Four.{queue_at, queues}
 use Rattle.queues.specs.Number.{number_of}
 use Rattle.queues.specs.View.{advanced}
 use Rattle.tasks.specs.declared.Tasks.{Tasks}
-use Rattle.tasks.specs.View.{table}
 use Rattle.tasks.proofs.Tables.{change_as}
 use Rattle.unit.specs.declared.faults.UnitFault.{UnitFault}
 use Rattle.unit.specs.Medium.{Medium, fresh, told_give, told_take}
@@ -69,7 +68,7 @@ move-on k r bytes m = by (writes k)
 -- the first request of a unit is moved on: the record x of its task becomes y, the unit, which meant m, means m', and b is the
 -- table with y
 module _ {k : Tables} {unit : UnitNumber} {r : Request} {x y : Task} {m' : Medium} {ends : Option Outcome} {b : Table} (m : Medium) (us : List Medium) (four : length us ≡ 4)
-    (f : First k unit r) (at : x ≡ record_in (table k.tasks) r.task) (h : Moves m' y ends (move_for x r m) x) (to : b ≡ change r.task (λ _. y) (table k.tasks)) where
+    (f : First k unit r) (at : x ≡ record_in k.tasks r.task) (h : Moves m' y ends (move_for x r m) x) (to : b ≡ change r.task (λ _. y) k.tasks) where
   -- the state, with that unit
   abbrev over : Medium → State
   over m = state (set us (number_of unit) m) k
@@ -89,32 +88,32 @@ module _ {k : Tables} {unit : UnitNumber} {r : Request} {x y : Task} {m' : Mediu
   by_move : apply (Service u) (over m) ≡ moving u r rs v v.ends (over m)
   by_move =
       serves ∙ ap (λ (q : List Request). serving u q (over m)) f.starts
-      ∙ ap (λ (d : Medium). moving u r rs (move_for (record_in (table k.tasks) r.task) r d) (move_for (record_in (table k.tasks) r.task) r d).ends (over m)) (get_or-set_same us u m (fresh [] 0 0) (let l = low unit in omega arith))
+      ∙ ap (λ (d : Medium). moving u r rs (move_for (record_in k.tasks r.task) r d) (move_for (record_in k.tasks r.task) r d).ends (over m)) (get_or-set_same us u m (fresh [] 0 0) (let l = low unit in omega arith))
       ∙ ap (λ (i : Task). moving u r rs (move_for i r m) (move_for i r m).ends (over m)) (sym at)
 
   units_are : set us u m' ≡ set (set us u m) u v.unit
   units_are = ap (set us u) h.medium ∙ sym (set-set us u m v.unit)
 
-  pub went_on : (tasks : Tasks) (requests : Queues) → is_some ends ≡ false → table tasks ≡ b → queues requests ≡ set (queues k.queues) u (advanced (queue_at unit k.queues))
+  pub went_on : (tasks : Tasks) (requests : Queues) → is_some ends ≡ false → tasks ≡ b → queues requests ≡ set (queues k.queues) u (advanced (queue_at unit k.queues))
       → Is (state_of (set us u m') tasks k.waits k.cells requests k.clock) (Ok 0) (apply (Service u) (over m))
   went_on tasks requests l t q =
       let n : v.ends ≡ None = sym h.ends ∙ none_of ends (sym l) in
-      let p : y ≡ with_bytes v.bytes (record_in (table k.tasks) r.task) = h.task ∙ ap (λ (o : Option Outcome). moved.ending v.bytes o x) n ∙ ap (with_bytes v.bytes) at in
-      let a : table tasks ≡ change r.task (with_bytes v.bytes) (table k.tasks) = t ∙ to ∙ change_as r.task (with_bytes v.bytes) y (table k.tasks) p in
+      let p : y ≡ with_bytes v.bytes (record_in k.tasks r.task) = h.task ∙ ap (λ (o : Option Outcome). moved.ending v.bytes o x) n ∙ ap (with_bytes v.bytes) at in
+      let a : tasks ≡ change r.task (with_bytes v.bytes) k.tasks = t ∙ to ∙ change_as r.task (with_bytes v.bytes) y k.tasks p in
       let c : queues requests ≡ set (queues k.queues) u ((record { task = r.task; size = r.size; moved = v.moved }) ∷ rs) =
       q ∙ ap (λ (z : List Request). set (queues k.queues) u (advanced z)) f.starts ∙ ap (λ (i : ℕ). set (queues k.queues) u ((record { task = r.task; size = r.size; moved = i }) ∷ rs)) (sym (move-on x.kind r x.bytes m n)) in
       let w = units_are in
       is (state_of (set us u m') tasks k.waits k.cells requests k.clock) (Ok 0) (apply (Service u) (over m)) (going_on u r rs v (over m))
       (by_move ∙ ap (λ (o : Option Outcome). moving u r rs v o (over m)) n) (cc) refl
 
-  pub was_last : (tasks : Tasks) (requests : Queues) → is_some ends ≡ true → table tasks ≡ turn (release r.task b) → queues requests ≡ set (queues k.queues) u rs
+  pub was_last : (tasks : Tasks) (requests : Queues) → is_some ends ≡ true → tasks ≡ turn (release r.task b) → queues requests ≡ set (queues k.queues) u rs
       → Is (state_of (set us u m') tasks k.waits k.cells requests k.clock) (Ok 1) (apply (Service u) (over m))
   was_last tasks requests l t q =
       let some = some_of v.ends (sym l ∙ ap is_some h.ends) in
       let o = some.0 in
-      let p : y ≡ with_outcome v.bytes o (record_in (table k.tasks) r.task) = h.task ∙ ap (λ (i : Option Outcome). moved.ending v.bytes i x) some.1 ∙ ap (with_outcome v.bytes o) at in
-      let a : table tasks ≡ turn (release r.task (change r.task (with_outcome v.bytes o) (table k.tasks))) =
-      t ∙ ap (λ (i : Table). turn (release r.task i)) (to ∙ change_as r.task (with_outcome v.bytes o) y (table k.tasks) p) in
+      let p : y ≡ with_outcome v.bytes o (record_in k.tasks r.task) = h.task ∙ ap (λ (i : Option Outcome). moved.ending v.bytes i x) some.1 ∙ ap (with_outcome v.bytes o) at in
+      let a : tasks ≡ turn (release r.task (change r.task (with_outcome v.bytes o) k.tasks)) =
+      t ∙ ap (λ (i : Table). turn (release r.task i)) (to ∙ change_as r.task (with_outcome v.bytes o) y k.tasks p) in
       let w = units_are in
       is (state_of (set us u m') tasks k.waits k.cells requests k.clock) (Ok 1) (apply (Service u) (over m)) (ending u r rs v o (over m))
       (by_move ∙ ap (λ (i : Option Outcome). moving u r rs v i (over m)) some.1) (cc) refl

@@ -3,9 +3,8 @@
 ghost use Rattle.std.specs.Prelude.{◌≡◌, ◌<◌, length};
 ghost use Rattle.tables.specs.Promises.{Serves};
 ghost use Rattle.queues.specs.Number.{number_of};
-ghost use Rattle.rules.specs.Sound.{in_table};
 ghost use Rattle.rules.specs.Tables.{release, turn};
-ghost use Rattle.tasks.specs.View.{table};
+ghost use Rattle.tasks.specs.Parts.{Unplaced};
 
 use calls::Refusal;
 use moving::one_move;
@@ -16,9 +15,8 @@ use unit::Unit;
 
 // Task `t`, whose wait at a unit is over, is released, and a turn follows.
 fn finish(tasks: &mut Tasks, t: usize)
-    requires within { t < length (table tasks.old).tasks }
-    requires nowhere { in_table t (table tasks.old) ≡ 0 }
-    ensures { table tasks.new ≡ turn (release t (table tasks.old)) }
+    requires { Unplaced t tasks.old }
+    ensures { tasks.new ≡ turn (release t tasks.old) }
 {
     tasks.release(t);
     tasks.turn();

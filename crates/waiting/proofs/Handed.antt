@@ -1,9 +1,11 @@
 -- Tasks whose waits end one by one, each released into the table.
-use Rattle.std.proofs.Common.{◌≡◌, ℕ, ◌+◌, ◌<◌, List, [], ◌∷◌, length, Some, None, sym, refl, ap, ◌∙◌, subst, arith}
+use Rattle.std.proofs.Common.{◌≡◌, ℕ, ◌+◌, List, [], ◌∷◌, length, Some, None, sym, refl, ap, ◌∙◌, subst, arith}
 use Rattle.std.specs.Option.{option_to_list}
 use Rattle.std.proofs.lemmas.Bool.Decides.{nat_tests}
 use Rattle.chain.specs.Lists.{count, first, one}
-use Rattle.tasks.proofs.Places.{in_change, in_hand, in_release, one_same, size-change, size-hand, tasks-release}
+use Rattle.rules.proofs.Counts.{in_change, in_hand, in_release, one_same, size-change, tasks-release}
+use Rattle.tasks.proofs.Places.{size-hand}
+use Rattle.tasks.specs.Parts.{Unplaced}
 use Rattle.cells.specs.Ended.{EndedOne}
 use Rattle.rules.specs.State.{Cells, Table, Task}
 use Rattle.rules.specs.Tables.{change, hand, hand_all, release}
@@ -14,13 +16,8 @@ use Rattle.tables.specs.Spread.{Spread}
 
 -- One task, whose wait is over ------------------------------------------------------------------------------------------------
 
--- it is one of the records and nowhere in the table
-pub record Away (t : ℕ) (a : Table) : Type 0 where
-  pub within : t < length a.tasks
-  pub nowhere : in_table t a ≡ 0
-
 module _ (t : ℕ) (a : Table) (all others : List ℕ) where
-  pub away : Spread a all → ((k : ℕ) → count k all ≡ count k (option_to_list (Some t)) + count k others) → Away t a
+  pub away : Spread a all → ((k : ℕ) → count k all ≡ count k (option_to_list (Some t)) + count k others) → Unplaced t a
   away s c = let p = s t in let q = c t in let o = one_same t in record { within = grind (arith, nat_tests); nowhere = grind (arith, nat_tests) }
 
   -- the others stay spread when it stands in the table

@@ -9,7 +9,6 @@ ghost use Rattle.rules.specs.Mail.{empty_cell, leave_first, tasks_at};
 ghost use Rattle.rules.specs.Records.{waiters};
 ghost use Rattle.rules.specs.Tables.{hand_all, release_all};
 ghost use Rattle.std.specs.Option.{option_to_list};
-ghost use Rattle.tasks.specs.View.{table};
 ghost use Rattle.unit.specs.Medium.{Medium};
 ghost use Rattle.std.specs.Prelude.{◌≡◌, List};
 
@@ -20,8 +19,8 @@ use tasks::Tasks;
 
 // Hands the message to each task that waits at the cell, the longest first, and releases it.
 fn hand_all(tasks: &mut Tasks, cells: &mut Cells, cell: u8, message: u16)
-    requires { Spread (table tasks.old) (waiters (post.cells cells.old).waits) }
-    ensures table { table tasks.new ≡ hand_all message (tasks_at cell (post.cells cells.old).waits) (table tasks.old) }
+    requires { Spread tasks.old (waiters (post.cells cells.old).waits) }
+    ensures table { tasks.new ≡ hand_all message (tasks_at cell (post.cells cells.old).waits) tasks.old }
     ensures cells { post.cells cells.new ≡ empty_cell cell (post.cells cells.old) }
     ensures room { post.room cells.new ≡ post.room cells.old }
 {
@@ -32,8 +31,8 @@ fn hand_all(tasks: &mut Tasks, cells: &mut Cells, cell: u8, message: u16)
 
 // Releases the sender that stayed at the cell, if there is one.
 fn release_sender(tasks: &mut Tasks, cells: &mut Cells, cell: u8)
-    requires { Spread (table tasks.old) (waiters (post.cells cells.old).waits) }
-    ensures table { table tasks.new ≡ release_all (option_to_list (first (tasks_at cell (post.cells cells.old).waits))) (table tasks.old) }
+    requires { Spread tasks.old (waiters (post.cells cells.old).waits) }
+    ensures table { tasks.new ≡ release_all (option_to_list (first (tasks_at cell (post.cells cells.old).waits))) tasks.old }
     ensures cells { post.cells cells.new ≡ leave_first cell (post.cells cells.old) }
     ensures room { post.room cells.new ≡ post.room cells.old }
 {

@@ -8,7 +8,6 @@ ghost use Rattle.tables.specs.Promises.{Does};
 ghost use Rattle.rules.specs.Clock.{due_at, later_than};
 ghost use Rattle.rules.specs.Records.{sleepers};
 ghost use Rattle.rules.specs.Tables.{release_all};
-ghost use Rattle.tasks.specs.View.{table};
 ghost use Rattle.unit.specs.Medium.{Medium};
 
 use calls::Refusal;
@@ -21,9 +20,9 @@ const LAST_READING: u64 = 1_000_000_000_000;
 
 // Ends all waits that are due at a reading of the clock, in order, releases their tasks and counts them.
 fn release_due(tasks: &mut Tasks, waits: &mut ClockWaits, reading: u64) -> u16
-    requires spread { Spread (table tasks.old) (sleepers (sleeping waits.old)) }
+    requires spread { Spread tasks.old (sleepers (sleeping waits.old)) }
     requires few { room waits.old ≤ 64 }
-    ensures table { table tasks.new ≡ release_all (sleepers (due_at reading (sleeping waits.old))) (table tasks.old) }
+    ensures table { tasks.new ≡ release_all (sleepers (due_at reading (sleeping waits.old))) tasks.old }
     ensures waits { sleeping waits.new ≡ later_than reading (sleeping waits.old) }
     ensures count { result ≡ length (sleepers (due_at reading (sleeping waits.old))) }
     ensures room { room waits.new ≡ room waits.old }

@@ -1,6 +1,5 @@
 -- On the caller it is the caller's own call; another task leaves its wait and its chain.
 use Rattle.std.proofs.Common.{sym, rules}
-use Rattle.tasks.specs.View.{table}
 use Rattle.rules.proofs.Waits.{found}
 use Rattle.tables.specs.View.{state}
 use Rattle.tables.proofs.Stands.{kept}
@@ -15,7 +14,7 @@ returns-then-task-caller c =
 
 pub kill_other-requires : goal.kill_other-requires
 kill_other-requires c =
-    let f = found c.args.id c.in-Some.task (table c.args.tables.now.tasks) (sym c.in-Some.ensures) in
+    let f = found c.args.id c.in-Some.task c.args.tables.now.tasks (sym c.in-Some.ensures) in
     record { within = f.inside; live = f.live; other = λ e. c.if-task-caller.false (let r = c.in_ok-caller.ensures.runs in cc) }
 
 pub invariant_of-tables : goal.invariant_of-tables

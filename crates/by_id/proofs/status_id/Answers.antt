@@ -1,6 +1,5 @@
 -- The status of the caller and of another task is told the same way.
 use Rattle.std.proofs.Common.{List, Ok, sym, refl, ap, ◌∙◌}
-use Rattle.tasks.specs.View.{table}
 use Rattle.unit.specs.Medium.{Medium}
 use Rattle.rules.specs.Acts.{Done}
 use Rattle.rules.proofs.Waits.{found}
@@ -9,7 +8,7 @@ use Rattle.by_id.proofs.Named.{status_told}
 use Rattle.by_id.proofs.status_id.Goals as goal
 
 pub status-requires : goal.status-requires
-status-requires c = (found c.args.id c.in-Some.task (table c.args.tables.now.tasks) (sym c.in-Some.ensures)).inside
+status-requires c = (found c.args.id c.in-Some.task c.args.tables.now.tasks (sym c.in-Some.ensures)).inside
 
 pub returns : goal.returns
 returns c =

@@ -1,6 +1,5 @@
 -- On the caller it is the caller's own call; another task is one of the records.
 use Rattle.std.proofs.Common.{refl, sym, rules}
-use Rattle.tasks.specs.View.{table}
 use Rattle.rules.proofs.Waits.{found}
 use Rattle.tables.specs.View.{state}
 use Rattle.tables.proofs.Stands.{kept}
@@ -14,7 +13,7 @@ returns-then-task-caller c =
     same_step (λ us. own-suspend (state us c.args.tables.now) c.in_ok-caller.caller c.in-Some.task c.args.id c.in_ok-caller.ensures.runs c.in-Some.ensures c.if-task-caller.true) c.suspend.ensures
 
 pub suspend_other-requires : goal.suspend_other-requires
-suspend_other-requires c = (found c.args.id c.in-Some.task (table c.args.tables.now.tasks) (sym c.in-Some.ensures)).inside
+suspend_other-requires c = (found c.args.id c.in-Some.task c.args.tables.now.tasks (sym c.in-Some.ensures)).inside
 
 pub invariant_of-tables : goal.invariant_of-tables
 invariant_of-tables c = record { stands = kept c.args.tables.now (ById c.args.id by.Suspend) tt (search rules) (refl, refl, refl) }

@@ -1,16 +1,15 @@
 -- The caller, which runs no longer, is nowhere and can be suspended.
-use Rattle.std.proofs.Common.{refl, rules}
+use Rattle.std.proofs.Common.{refl, rules, sym}
 use Rattle.calls.specs.declared.call.Call.TheVariants.{Suspend}
-use Rattle.tables.proofs.Stands.{kept, left, left-changed}
+use Rattle.tasks.proofs.Placing.{changed_unplaced}
+use Rattle.tables.proofs.Stands.{kept}
 use Rattle.own.proofs.suspend.Goals as goal
 
 pub set_mark-requires : goal.set_mark-requires
-set_mark-requires c = (left c.in_ok-caller.ensures c.stop.ensures).within
+set_mark-requires c = (c.stop.ensures.left c.in_ok-caller.caller (sym c.in_ok-caller.ensures.runs)).within
 
 pub suspend-requires : goal.suspend-requires
-suspend-requires c =
-    let h = left-changed _ c.set_mark.ensures (left c.in_ok-caller.ensures c.stop.ensures) in
-    record { within = h.within; nowhere = h.nowhere }
+suspend-requires c = rw c.set_mark.ensures (changed_unplaced _ (c.stop.ensures.left c.in_ok-caller.caller (sym c.in_ok-caller.ensures.runs)))
 
 pub invariant_of-tables : goal.invariant_of-tables
 invariant_of-tables c = record { stands = kept c.args.tables.now Suspend tt (search rules) (refl, refl, refl) }

@@ -3,10 +3,7 @@ use Rattle.tasks.proofs.Tables.{chosen}
 use Rattle.tasks.proofs.Tasks.choose.Goals as goal
 
 pub invariant_of-self : goal.invariant_of-self
-invariant_of-self c =
-    let u = c.take_first-self in
-    let n = chosen c.args.self.now u.new.head u.ensures.ends u.result u.ensures.first u.ensures.rest in
-    record { ends = n.ends; placed = n.placed }
+invariant_of-self c = let u = c.take_first-self-inside in (chosen c.self.inside c.self.invariant u.new.head u.ensures.ends u.result u.ensures.first u.ensures.rest).kept
 
 pub returns : goal.returns
-returns c = let u = c.take_first-self in (chosen c.args.self.now u.new.head u.ensures.ends u.result u.ensures.first u.ensures.rest).is
+returns c = let u = c.take_first-self-inside in rw (← c.self.view_is) (chosen c.self.inside c.self.invariant u.new.head u.ensures.ends u.result u.ensures.first u.ensures.rest).is

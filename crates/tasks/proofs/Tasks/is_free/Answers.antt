@@ -4,4 +4,4 @@ use Rattle.tasks.proofs.Tasks.is_free.Goals as goal
 
 pub returns : goal.returns
 unfolding table_of
-returns c = c.is_on.ensures
+returns c = rw (← c.self.view_is) c.is_on.ensures

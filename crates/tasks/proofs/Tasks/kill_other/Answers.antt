@@ -1,16 +1,10 @@
--- A live task that does not run is nowhere as soon as it has left both chains.
-use Rattle.std.proofs.Common.{◌<◌, length, sym, ap, ◌∙◌, subst}
-use Rattle.rules.specs.Tables.{take_out, unsuspend}
-use Rattle.tasks.specs.View.{table}
-use Rattle.tasks.proofs.Places.{tasks-take_out, tasks-unsuspend}
-use Rattle.tasks.proofs.Placing.{left-nowhere, unplaced_as}
+-- A live task that does not run can be placed as soon as it has left both chains.
+use Rattle.tasks.proofs.Placing.{left_unplaced}
 use Rattle.tasks.proofs.Tasks.kill_other.Goals as goal
 
 pub clear-requires : goal.clear-requires
 clear-requires c =
-    let s = c.args.self.now in
-    let a = table s in
-    let k = c.args.k in
-    let u = unplaced_as k (unsuspend k (take_out k a)) _ (c.unsuspend.ensures ∙ ap (unsuspend k) c.take_out.ensures)
-    (subst (λ ts. k < length ts) (sym (tasks-unsuspend k (take_out k a) ∙ tasks-take_out k a)) c.requires.within) (left-nowhere a s.placed k c.requires.live c.requires.other) in
-    record { within = u.0; nowhere = u.1 }
+    let r = c.requires in
+    let o = c.take_out.ensures in
+    let u = c.unsuspend.ensures in
+    rw (u.table, o.table) (left_unplaced c.args.k c.args.self.now r.within r.live r.other (rw (← o.table) o.left) (rw (← o.table, ← u.table) u.left))

@@ -4,20 +4,15 @@ use Rattle.tasks.proofs.Tasks.link.Goals as goal
 
 pub link_by_rank-requires : goal.link_by_rank-requires
 link_by_rank-requires c =
-    let s = c.args.self.now in
+    let x = c.self.inside in
     record {
-      ends = s.ends.1;
-      within = within-links s c.args.t c.requires.within c.requires.nowhere;
-      fresh = not-ready s c.args.t c.requires.within c.requires.nowhere;
+      ends = c.self.invariant.ends.1;
+      within = within-links x c.args.t (rw c.self.view_is c.requires.within);
+      fresh = not-ready x c.args.t (rw c.self.view_is c.requires);
     }
 
 pub invariant_of-self : goal.invariant_of-self
-invariant_of-self c =
-    let u = c.link_by_rank in
-    let n = linked c.args.self.now c.args.t c.requires.within c.requires.nowhere u.new.self u.new.head u.ensures.records u.ensures.links in
-    record { ends = n.ends; placed = n.placed }
+invariant_of-self c = let u = c.link_by_rank in (linked c.self.inside c.self.invariant c.args.t (rw c.self.view_is c.requires) u.new.self u.new.head u.ensures.records u.ensures.links).kept
 
 pub returns : goal.returns
-returns c =
-    let u = c.link_by_rank in
-    (linked c.args.self.now c.args.t c.requires.within c.requires.nowhere u.new.self u.new.head u.ensures.records u.ensures.links).is
+returns c = let u = c.link_by_rank in rw (← c.self.view_is) (linked c.self.inside c.self.invariant c.args.t (rw c.self.view_is c.requires) u.new.self u.new.head u.ensures.records u.ensures.links).is

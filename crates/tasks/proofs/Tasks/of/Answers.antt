@@ -8,8 +8,7 @@ pub invariant_of-result : goal.invariant_of-result
 invariant_of-result c =
     let u = c.link_all_but_first-free in
     let k = c.in_ok-links.ensures in
-    let n = begun u.new.self u.result c.args.n _ c.new.result c.requires (ap length k.nexts ∙ length-replicate c.args.n None) c.new.ensures (u.ensures.records ∙ k.records) u.ensures.links.ends u.ensures.links.list in
-    record { ends = n.ends; placed = n.placed }
+    (begun u.new.self u.result c.args.n _ c.new.result c.requires (ap length k.nexts ∙ length-replicate c.args.n None) c.new.ensures (u.ensures.records ∙ k.records) u.ensures.links.ends u.ensures.links.list).kept
 
 pub returns : goal.returns
 returns c =

@@ -4,20 +4,15 @@ use Rattle.tasks.proofs.Tasks.put_free.Goals as goal
 
 pub put_first-requires : goal.put_first-requires
 put_first-requires c =
-    let s = c.args.self.now in
+    let x = c.self.inside in
     record {
-      ends = s.ends.0;
-      within = within-links s c.args.t c.requires.within c.requires.nowhere;
-      fresh = not_free s c.args.t c.requires.within c.requires.nowhere;
+      ends = c.self.invariant.ends.0;
+      within = within-links x c.args.t (rw c.self.view_is c.requires.within);
+      fresh = not_free x c.args.t (rw c.self.view_is c.requires);
     }
 
 pub invariant_of-self : goal.invariant_of-self
-invariant_of-self c =
-    let u = c.put_first in
-    let n = freed c.args.self.now c.args.t c.requires.within c.requires.nowhere u.new.self u.new.head u.ensures.records u.ensures.links in
-    record { ends = n.ends; placed = n.placed }
+invariant_of-self c = let u = c.put_first in (freed c.self.inside c.self.invariant c.args.t (rw c.self.view_is c.requires) u.new.self u.new.head u.ensures.records u.ensures.links).kept
 
 pub returns : goal.returns
-returns c =
-    let u = c.put_first in
-    (freed c.args.self.now c.args.t c.requires.within c.requires.nowhere u.new.self u.new.head u.ensures.records u.ensures.links).is
+returns c = let u = c.put_first in rw (← c.self.view_is) (freed c.self.inside c.self.invariant c.args.t (rw c.self.view_is c.requires) u.new.self u.new.head u.ensures.records u.ensures.links).is

@@ -1,20 +1,12 @@
 -- A suspended task is nowhere as soon as it has left its chain.
 use Rattle.std.proofs.Common.{sym, ap, ◌∙◌}
 use Rattle.rules.specs.Tables.{link}
-use Rattle.tasks.specs.View.{table}
 use Rattle.tasks.proofs.Cases.{ready_else, ready-suspended}
-use Rattle.tasks.proofs.Placing.{unsuspended_unplaced}
 use Rattle.tasks.proofs.Tasks.ready_other.Goals as goal
-
-pub link-requires : goal.link-requires
-link-requires c =
-    let s = c.set_mark.new.self in
-    let u = unsuspended_unplaced (table s) s.placed c.args.k (sym c.is_suspended.ensures ∙ c.if-is_suspended.true) _ c.unsuspend.ensures in
-    record { within = u.0; nowhere = u.1 }
 
 pub returns-then-is_suspended : goal.returns-then-is_suspended
 returns-then-is_suspended c =
-    c.link.ensures ∙ ap (link c.args.k) c.unsuspend.ensures ∙ ready-suspended (table c.args.self.now) c.args.k _ c.set_mark.ensures (sym c.is_suspended.ensures ∙ c.if-is_suspended.true)
+    c.link.ensures ∙ ap (link c.args.k) c.unsuspend.ensures.table ∙ ready-suspended c.args.self.now c.args.k _ c.set_mark.ensures (sym c.is_suspended.ensures ∙ c.if-is_suspended.true)
 
 pub returns-else-is_suspended : goal.returns-else-is_suspended
-returns-else-is_suspended c = ready_else (table c.args.self.now) c.args.k _ c.set_mark.ensures (sym c.is_suspended.ensures ∙ c.if-is_suspended.false)
+returns-else-is_suspended c = ready_else c.args.self.now c.args.k _ c.set_mark.ensures (sym c.is_suspended.ensures ∙ c.if-is_suspended.false)

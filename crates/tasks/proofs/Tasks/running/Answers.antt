@@ -1,8 +1,6 @@
 -- The field is the table's.
-use Rattle.std.proofs.Common.{refl}
-use Rattle.tasks.specs.Parts.{table_of}
+use Rattle.tasks.proofs.Tables.{runs-is}
 use Rattle.tasks.proofs.Tasks.running.Goals as goal
 
 pub returns : goal.returns
-unfolding table_of
-returns c = refl
+returns c = rw (← c.self.view_is) (runs-is c.self.inside)

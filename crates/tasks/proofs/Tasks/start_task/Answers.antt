@@ -1,27 +1,20 @@
--- The caller and the first free record are nowhere before they are linked.
-use Rattle.std.proofs.Common.{ap, ◌∙◌}
-use Rattle.rules.specs.Tables.{fill, link, stop}
+-- The first free record and the caller are nowhere before they are linked.
+use Rattle.std.proofs.Common.{◌∙◌}
 use Rattle.tasks.specs.Parts.{as_task}
-use Rattle.tasks.specs.View.{table}
-use Rattle.tasks.proofs.Placing.{caller_unplaced, first-free-within, new_unplaced, unplaced_as}
+use Rattle.tasks.proofs.Placing.{changed_unplaced, new_unplaced}
+use Rattle.tasks.proofs.Places.{runs-fill}
 use Rattle.tasks.proofs.Tasks.start_task.Goals as goal
 
-pub fill-requires : goal.fill-requires
-fill-requires c = let s = c.args.self.now in first-free-within (table s) s.placed c.args.k c.requires.free
+pub replace-requires : goal.replace-requires
+replace-requires c = (c.take_free.ensures.left c.args.k c.requires.free).within
 
 pub link-requires : goal.link-requires
-link-requires c =
-    let s = c.args.self.now in
-    let x = as_task c.args.with in
-    let h = caller_unplaced (table s) s.placed c.args.caller c.args.k x c.requires.running c.requires.free in
-    let u = unplaced_as c.args.caller (stop (fill c.args.k x (table s))) _ (c.stop.ensures ∙ ap stop c.fill.ensures) h.0 h.1 in
-    record { within = u.0; nowhere = u.1 }
+link-requires c = c.stop.ensures.left c.args.caller (rw (c.replace.ensures, c.take_free.ensures.table) (runs-fill c.args.k (as_task c.args.with) c.args.self.now ∙ c.requires.running))
 
 pub link-requires-2 : goal.link-requires-2
 link-requires-2 c =
-    let s = c.args.self.now in
-    let t = c.args.caller in
+    let k = c.args.k in
     let x = as_task c.args.with in
-    let h = new_unplaced (table s) s.placed t c.args.k x c.requires.running c.requires.free in
-    let u = unplaced_as c.args.k (link t (stop (fill c.args.k x (table s)))) _ (c.link.ensures ∙ ap (link t) (c.stop.ensures ∙ ap stop c.fill.ensures)) h.0 h.1 in
-    record { within = u.0; nowhere = u.1 }
+    let runs = runs-fill k x c.args.self.now ∙ c.requires.running in
+    let free = changed_unplaced (λ _. x) (c.take_free.ensures.left k c.requires.free) in
+    rw (c.link.ensures, c.stop.ensures.table) (new_unplaced k c.args.caller c.replace.new.self (rw (c.replace.ensures, c.take_free.ensures.table) runs) (rw c.replace.ensures free))

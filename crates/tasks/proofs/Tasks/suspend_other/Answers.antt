@@ -1,20 +1,12 @@
 -- A ready task is nowhere as soon as it is taken out.
 use Rattle.std.proofs.Common.{sym, ap, ◌∙◌}
 use Rattle.rules.specs.Tables.{suspend}
-use Rattle.tasks.specs.View.{table}
 use Rattle.tasks.proofs.Cases.{suspend_else, suspend-ready}
-use Rattle.tasks.proofs.Placing.{unready_unplaced}
 use Rattle.tasks.proofs.Tasks.suspend_other.Goals as goal
-
-pub suspend-requires : goal.suspend-requires
-suspend-requires c =
-    let s = c.set_mark.new.self in
-    let u = unready_unplaced (table s) s.placed c.args.k (sym c.is_ready.ensures ∙ c.if-is_ready.true) _ c.take_out.ensures in
-    record { within = u.0; nowhere = u.1 }
 
 pub returns-then-is_ready : goal.returns-then-is_ready
 returns-then-is_ready c =
-    c.suspend.ensures ∙ ap (suspend c.args.k) c.take_out.ensures ∙ suspend-ready (table c.args.self.now) c.args.k _ c.set_mark.ensures (sym c.is_ready.ensures ∙ c.if-is_ready.true)
+    c.suspend.ensures ∙ ap (suspend c.args.k) c.take_out.ensures.table ∙ suspend-ready c.args.self.now c.args.k _ c.set_mark.ensures (sym c.is_ready.ensures ∙ c.if-is_ready.true)
 
 pub returns-else-is_ready : goal.returns-else-is_ready
-returns-else-is_ready c = suspend_else (table c.args.self.now) c.args.k _ c.set_mark.ensures (sym c.is_ready.ensures ∙ c.if-is_ready.false)
+returns-else-is_ready c = suspend_else c.args.self.now c.args.k _ c.set_mark.ensures (sym c.is_ready.ensures ∙ c.if-is_ready.false)

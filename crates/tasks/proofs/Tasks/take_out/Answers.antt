@@ -1,14 +1,13 @@
 -- The other chains have none of the ready numbers.
+use Rattle.tasks.proofs.Placing.{unready_unplaced}
 use Rattle.tasks.proofs.Tables.{taken_out}
 use Rattle.tasks.proofs.Tasks.take_out.Goals as goal
 
 pub invariant_of-self : goal.invariant_of-self
-invariant_of-self c =
-    let u = c.take_out in
-    let n = taken_out c.args.self.now c.args.t u.new.self u.new.head u.ensures.records u.ensures.links in
-    record { ends = n.ends; placed = n.placed }
+invariant_of-self c = let u = c.take_out in (taken_out c.self.inside c.self.invariant c.args.t u.new.self u.new.head u.ensures.records u.ensures.links).kept
 
 pub returns : goal.returns
 returns c =
     let u = c.take_out in
-    (taken_out c.args.self.now c.args.t u.new.self u.new.head u.ensures.records u.ensures.links).is
+    let n = taken_out c.self.inside c.self.invariant c.args.t u.new.self u.new.head u.ensures.records u.ensures.links in
+    rw (← c.self.view_is) (record { table = n.is; left = λ on. rw n.is (unready_unplaced _ c.self.invariant.placed c.args.t on) })

@@ -1,10 +1,9 @@
 -- The record of the rules is what the code's record stands for.
-use Rattle.std.proofs.Common.{arith}
-use Rattle.tasks.proofs.Tables.{record_is, size}
+use Rattle.tasks.proofs.Tables.{record_is, within-links}
 use Rattle.tasks.proofs.Tasks.task.Goals as goal
 
 pub record_at-requires : goal.record_at-requires
-record_at-requires c = omega (arith, c.requires, size c.args.self.now)
+record_at-requires c = within-links c.self.inside c.args.t (rw c.self.view_is c.requires)
 
 pub returns : goal.returns
-returns c = let s = c.args.self.now in record_is s c.args.t _ (omega (arith, c.requires, size s)) c.record_at.ensures
+returns c = rw (← c.self.view_is) (record_is c.self.inside c.args.t _ (rw c.self.view_is c.requires) c.record_at.ensures)

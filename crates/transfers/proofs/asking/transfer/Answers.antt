@@ -1,5 +1,5 @@
 -- The caller is one of the records and waits nowhere; what it asks for is what the rules ask for.
-use Rattle.std.proofs.Common.{List, Ok, Err, refl, ap, ◌∙◌, arith, rules}
+use Rattle.std.proofs.Common.{List, Ok, Err, sym, refl, ap, ◌∙◌, arith, rules}
 use Rattle.calls.specs.Calls.{transfer_with}
 use Rattle.calls.specs.declared.call.Call.TheVariants.{Transfer}
 use Rattle.rules.specs.Rules.{apply}
@@ -7,7 +7,7 @@ use Rattle.std.proofs.lemmas.Result.{err_from_is_err_and}
 use Rattle.unit.specs.Medium.{Medium}
 use Rattle.tables.specs.Parts.{blanks, state_of}
 use Rattle.tables.specs.View.{state}
-use Rattle.tables.proofs.Stands.{kept, left}
+use Rattle.tables.proofs.Stands.{kept}
 use Rattle.transfers.proofs.Requested.{Is, granted, refused}
 use Rattle.transfers.proofs.asking.transfer.Goals as goal
 use Rattle.transfers.proofs.asking.transfer.Goals.{After-turn, In_err-asked, at-returns, at-returns-in_err-asked}
@@ -32,10 +32,10 @@ join-requires c =
     record { within = omega (arith, h.within, r.askers); fresh = h.served }
 
 pub task-requires : goal.task-requires
-task-requires c = (left c.in_ok-caller.ensures c.stop.ensures).within
+task-requires c = (c.stop.ensures.left c.in_ok-caller.caller (sym c.in_ok-caller.ensures.runs)).within
 
 pub replace-requires : goal.replace-requires
-replace-requires c = (left c.in_ok-caller.ensures c.stop.ensures).within
+replace-requires c = (c.stop.ensures.left c.in_ok-caller.caller (sym c.in_ok-caller.ensures.runs)).within
 
 -- the transfer, as the rules see it
 done : (c : After-turn) (us : List Medium)
@@ -43,7 +43,7 @@ done : (c : After-turn) (us : List Medium)
     (apply (Transfer c.args.unit (transfer_with (λ t. t.now) c.args.transfer)) (state us c.args.tables.now))
 done c us =
     granted c.args.unit (transfer_with (λ t. t.now) c.args.transfer) c.in_ok-caller.ensures c.in_ok-at.ensures us c.turn.new.self c.join.new.self c.in_ok-asked.ensures
-    c.stop.ensures c.task.ensures c.begun-task.ensures c.replace.ensures c.turn.ensures c.join.ensures.queues
+    c.stop.ensures.table c.task.ensures c.begun-task.ensures c.replace.ensures c.turn.ensures c.join.ensures.queues
 
 pub returns : goal.returns
 returns c = record { state = λ us. (done (at-returns c).After-turn us).state; answer = λ us. (done (at-returns c).After-turn us).answer; room = (refl, refl, c.join.ensures.room) }

@@ -8,7 +8,6 @@ use Rattle.queues.specs.View.{as_request}
 use Rattle.rules.specs.Rules.{apply}
 use Rattle.rules.specs.Sound.{fits}
 use Rattle.rules.specs.State.{Task}
-use Rattle.tasks.specs.View.{table}
 use Rattle.tasks.specs.Parts.{as_task}
 use Rattle.unit.specs.Medium.{Medium}
 use Rattle.moving.specs.Moved.{move_for}
@@ -26,21 +25,19 @@ found : (g : given.Over) (c : In_ok-first g) → First c.args.tables.now c.args.
 found g c = first_request c.args.tables.now c.args.unit (as_request c.in_ok-first.first) (ap (option_map as_request) (sym c.in_ok-first.ensures.ok_part) ∙ c.first.ensures)
 
 pub task-requires : goal.task-requires
-task-requires g c = (found g (at-task-requires g c).In_ok-first).within
+task-requires g c = (found g (at-task-requires g c).In_ok-first).unplaced.within
 
 pub one_move-outcome-requires : goal.one_move-outcome-requires
 one_move-outcome-requires g c = subst (λ (x : Task). fits x (as_request c.in_ok-first.first) ≡ true) (sym c.task.ensures) (found g (at-one_move-outcome-requires g c).In_ok-first).fit
 
 pub replace-requires : goal.replace-requires
-replace-requires g c = (found g (at-replace-requires g c).In_ok-first).within
+replace-requires g c = (found g (at-replace-requires g c).In_ok-first).unplaced.within
 
 pub advance-requires : goal.advance-requires
 advance-requires g c = λ r e. let f = (first_request c.args.tables.now c.args.unit r (sym e)).fit in grind (arith, nat_tests)
 
 pub finish-requires : goal.finish-requires
-finish-requires g c =
-    let h = put c.args.tables.now c.args.unit (as_request c.in_ok-first.first) (as_task c.one_move-outcome.new.task) (table c.replace.new.self) (found g (at-finish-requires g c).In_ok-first) c.replace.ensures in
-    record { within = h.within; nowhere = h.nowhere }
+finish-requires g c = put c.args.tables.now c.args.unit (as_request c.in_ok-first.first) (as_task c.one_move-outcome.new.task) c.replace.new.self (found g (at-finish-requires g c).In_ok-first) c.replace.ensures
 
 -- what the move came to
 move-is : (g : given.Over) (c : After-replace g) → Moves (g.U.Unit.medium c.one_move-outcome.new.device) (as_task c.one_move-outcome.new.task) c.one_move-outcome.result

@@ -1,6 +1,5 @@
 -- Each receiver is nowhere in the table while its wait ends.
 use Rattle.std.proofs.Common.{length, refl, ap, ◌∙◌, arith}
-use Rattle.tasks.specs.View.{table}
 use Rattle.cells.specs.View.{cells}
 use Rattle.rules.specs.Records.{waiters}
 use Rattle.waiting.proofs.Handed.{away, handing-done, handing-more}
@@ -12,8 +11,7 @@ loop-receiver-init c = (record { spread = c.requires; table = refl; cells = refl
 pub hand-requires : goal.hand-requires
 hand-requires c =
     let l = c.loop-receiver in
-    let h = away c.in-Some.receiver (table l.tasks) (waiters (cells l.cells).waits) (waiters (cells c.take_first_at.new.self).waits) l.invariant.0.spread c.in-Some.ensures.laws.counts in
-    record { within = h.within; nowhere = h.nowhere }
+    away c.in-Some.receiver l.tasks (waiters (cells l.cells).waits) (waiters (cells c.take_first_at.new.self).waits) l.invariant.0.spread c.in-Some.ensures.laws.counts
 
 pub loop-receiver-smaller : goal.loop-receiver-smaller
 loop-receiver-smaller c = omega (arith, ap length c.in-Some.ensures.laws.here)

@@ -2,7 +2,6 @@
 use Rattle.std.proofs.Common.{length, refl, ap, ◌∙◌, arith}
 use Rattle.clock.specs.View.{sleeping}
 use Rattle.rules.specs.Records.{sleepers}
-use Rattle.tasks.specs.View.{table}
 use Rattle.waiting.proofs.Handed.{away}
 use Rattle.waiting.proofs.Due.{due-few, releasing-done, releasing-more}
 use Rattle.waiting.proofs.timing.release_due.Goals as goal
@@ -13,8 +12,7 @@ loop-task-init c = (record { spread = c.requires.spread; table = refl; waits = r
 pub release-requires : goal.release-requires
 release-requires c =
     let l = c.loop-task in
-    let h = away c.in-Some.task (table l.tasks) (sleepers (sleeping l.waits)) (sleepers (sleeping c.pop_due.new.self)) l.invariant.0.spread c.in-Some.ensures.laws.counts in
-    record { within = h.within; nowhere = h.nowhere }
+    away c.in-Some.task l.tasks (sleepers (sleeping l.waits)) (sleepers (sleeping c.pop_due.new.self)) l.invariant.0.spread c.in-Some.ensures.laws.counts
 
 pub overflow_add-count : goal.overflow_add-count
 overflow_add-count c =
