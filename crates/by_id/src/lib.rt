@@ -15,7 +15,7 @@ use tables::Tables;
 
 // Each call below finds its task by itself: one helper for all would take two closures, and be no shorter.
 
-// A call on the task with the id.
+// A call on the task with the id: the one entry for all five, whose names are the calls'.
 pub fn by_id(tables: &mut Tables, id: u8, call: ByIdCall) -> Result<u16, Refusal>
     ensures { Does (ById id call) tables.old tables.new result }
 {

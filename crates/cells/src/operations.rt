@@ -1,4 +1,5 @@
-// What can be done with the cells.
+// What can be done with the cells. What is the same at the clock and the units is the line's; here it has the name that the rules give
+// it, and promises their definition.
 
 ghost use Rattle.std.specs.Prelude.{◌≡◌, ◌<◌, false, not, IfOk};
 ghost use Rattle.cells.specs.View.{cells, room};

@@ -1,4 +1,5 @@
-// What can be done with the waits for due ticks.
+// What can be done with the waits for due ticks. What is the same at the cells and the units is the line's; here it has the name that
+// the rules give it, and promises their definition.
 
 ghost use Rattle.std.specs.Prelude.{◌≡◌, ◌<◌, false, [], IfOk};
 ghost use Rattle.chain.specs.Lists.{first, has};

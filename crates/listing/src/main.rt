@@ -56,6 +56,7 @@ fn list_first<'b>(
     let (call, rest) = match read_call(bytes, &mut text) {
         Ok(Some(found)) => found,
         Ok(None) => return Ok(None),
+        // It ends the listing, and not the program.
         Err(_) => {
             println!(rt; "{place:>5}  no lawful call begins here")?;
             return Ok(None);

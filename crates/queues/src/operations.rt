@@ -1,4 +1,5 @@
-// What can be done with a unit's queue.
+// What can be done with a unit's queue. What is the same at the clock and the cells is the line's; here it has the name that the rules
+// give it, and promises their definition.
 
 ghost use Rattle.std.specs.Prelude.{◌≡◌, ◌<◌, false, [], IfOk, Some};
 ghost use Rattle.chain.specs.Lists.{first, has, rest};

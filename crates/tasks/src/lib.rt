@@ -1,5 +1,6 @@
 // The task table: records on three chains of one table of links, and the running one.
-// Each method does one thing that the rules do to a table, and promises the rule's own name for it.
+// Each method does one thing that the rules do to a table, and promises the rule's own name for it. That a number is within the
+// table is asked of each: how many records there are is settled at run time, so no type of a number can hold it.
 #![tactic(auto)]
 
 ghost use Rattle.rules.specs.State.{Table};

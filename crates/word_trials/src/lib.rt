@@ -18,9 +18,9 @@ mod tests {
         assert!(rt; &out[0..size] == words);
         assert!(rt; out[size..400].iter().copied().max() == Some(0xee) || size == 400);
         let mut text = [0; LONGEST_TEXT];
-        let Some((read, rest)) = read_call(words, &mut text)? else {
-            return Err(Fail::new("no call was found"));
-        };
+        let (read, rest) = read_call(words, &mut text)?.ok_or_else(|| Fail::new(
+            "no call was found",
+        ))?;
         assert_eq!(rt; read, call);
         assert!(rt; rest.is_empty());
         let mut again = [0xee; 400];
@@ -344,9 +344,9 @@ mod tests {
         let mut rest: &[u8] = bytes;
         for size in sizes {
             let mut text = [0; LONGEST_TEXT];
-            let Some((_, after)) = read_call(rest, &mut text)? else {
-                return Err(Fail::new("no call was found"));
-            };
+            let (_, after) = read_call(rest, &mut text)?.ok_or_else(|| Fail::new(
+                "no call was found",
+            ))?;
             assert_eq!(rt; after.len() + size, rest.len());
             rest = after;
         }
@@ -373,9 +373,9 @@ mod tests {
         assert!(rt; size <= 48);
         assert!(rt; &out[0..size] == words);
         let mut room = [0; LONGEST_TEXT];
-        let Some((read, rest)) = read_answer(words, &mut room)? else {
-            return Err(Fail::new("no answer was found"));
-        };
+        let (read, rest) = read_answer(words, &mut room)?.ok_or_else(|| Fail::new(
+            "no answer was found",
+        ))?;
         assert!(rt; rest.is_empty());
         assert_eq!(rt; read, answer);
         Ok(())

@@ -1,4 +1,5 @@
-// Reading a call: its first word, and the data words that go on with it.
+// Reading a call: its first word, and the data words that go on with it. The place for a text is the caller's and is lent for one
+// call, so it is no part of a reader.
 
 ghost use Rattle.std.specs.Prelude.{◌≡◌, ℕ, ◌<◌, ◌≤◌, List, ◌++◌, length, MatchOption, ◌≢◌};
 ghost use Rattle.calls.specs.Calls.{call_with};
