@@ -1,5 +1,5 @@
 // What can be done with the cells. What is the same at the clock and the units is the line's; here it has the name that the rules give
-// it, and promises their definition.
+// it, and promises their definition, and that its room stays (see there).
 
 ghost use Rattle.std.specs.Prelude.{◌≡◌, ◌<◌, false, not, IfOk};
 ghost use Rattle.cells.specs.View.{cells, room};

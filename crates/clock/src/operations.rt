@@ -1,5 +1,5 @@
 // What can be done with the waits for due ticks. What is the same at the cells and the units is the line's; here it has the name that
-// the rules give it, and promises their definition.
+// the rules give it, and promises their definition, and that its room stays (see there).
 
 ghost use Rattle.std.specs.Prelude.{◌≡◌, ◌<◌, false, [], IfOk};
 ghost use Rattle.chain.specs.Lists.{first, has};

@@ -1,7 +1,7 @@
 // What a host can read off a monitor.
 
-ghost use Rattle.std.specs.Prelude.{◌≡◌, ◌<◌, ◌≤◌, length, MatchOption};
-ghost use Rattle.tables.specs.Places.{place_in};
+ghost use Rattle.std.specs.Prelude.{◌≡◌, length};
+ghost use Rattle.tables.specs.Places.{IfRecord, place_in};
 ghost use Rattle.monitor.specs.View.{media};
 ghost use Rattle.rules.specs.Rules.{outcome_text};
 ghost use Rattle.rules.specs.Sound.{OnePlace};
@@ -30,14 +30,14 @@ impl<A: Unit, B: Unit, C: Unit, D: Unit> Monitor<A, B, C, D> {
 
     // The record `k`, if there is one.
     pub fn task(&self, k: usize) -> Option<&Task>
-        ensures { MatchOption result (length self.now.table.tasks ≤ k) (λ t. (k < length self.now.table.tasks) × (as_task t.now ≡ task_of self.now k)) }
+        ensures { IfRecord self.now k result (λ t. as_task t.now ≡ task_of self.now k) }
     {
         self.tables.task(k)
     }
 
     // Where the record `k` is, if there is one. Every record of every monitor is at exactly one place.
     pub fn place(&self, k: usize) -> Option<Place>
-        ensures told { MatchOption result (length self.now.table.tasks ≤ k) (λ p. (k < length self.now.table.tasks) × (p ≡ place_in self.now k)) }
+        ensures told { IfRecord self.now k result (λ p. p ≡ place_in self.now k) }
         ensures once { OnePlace self.now }
     {
         self.tables.place(k)

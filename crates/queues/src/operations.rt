@@ -1,5 +1,5 @@
 // What can be done with a unit's queue. What is the same at the clock and the cells is the line's; here it has the name that the rules
-// give it, and promises their definition.
+// give it, and promises their definition, and that its room stays (see there).
 
 ghost use Rattle.std.specs.Prelude.{◌≡◌, ◌<◌, false, [], IfOk, Some};
 ghost use Rattle.chain.specs.Lists.{first, has, rest};
@@ -62,12 +62,12 @@ impl Queue {
         ensures requests { requests self.new ≡ advanced (requests self.old) }
         ensures room { room self.new ≡ room self.old }
     {
-        let Some(first) = self.line.first() else {
-            return;
-        };
-        self.line.replace_first(UnitRequest {
-            size: first.wait.size,
-            moved: first.wait.moved + 1,
-        });
+        if let Some(first) = self.line.first() {
+            let moved = first.wait.moved + 1;
+            self.line.replace_first(UnitRequest {
+                moved,
+                ..first.wait
+            });
+        }
     }
 }

@@ -21,6 +21,7 @@ impl Queues {
         ensures queues { IfOk result (λ x. queues x ≡ replicate 4 []) }
         ensures room { IfOk result (λ x. room_of x ≡ n) }
     {
+        // Tried as `array::try_from_fn`: the proof did not close.
         let at = [
             Queue::of(heap, n)?,
             Queue::of(heap, n)?,
@@ -72,7 +73,7 @@ impl Queues {
     }
 }
 
-// Whether task `t` is in one of the queues.
+// Whether task `t` is in one of the queues. It stands by itself, so that its promise follows the chain of calls.
 fn any_asking(queues: &[Queue], t: usize) -> bool
     ensures { result ≡ list_any (λ q. has t (askers (requests q))) queues.now }
 {

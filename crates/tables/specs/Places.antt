@@ -1,5 +1,5 @@
 -- Where a record is.
-use Rattle.std.specs.Prelude.{ℕ, Bool, false, cond, Some, None, Option, ◌==◌}
+use Rattle.std.specs.Prelude.{ℕ, ◌<◌, ◌≤◌, Bool, false, cond, length, Some, None, Option, ◌==◌, MatchOption}
 use Rattle.chain.specs.Lists.{has}
 use Rattle.rules.specs.State.{State}
 use Rattle.rules.specs.Records.{sleepers, waiters}
@@ -20,3 +20,7 @@ place_in s k =
     (cond (has k s.table.suspended) Suspended
     (cond (has k (waiters s.cells.waits)) AtCell
     (cond (has k (sleepers s.sleeping)) Delayed AtUnit)))))
+
+-- what is read of the record k, if there is one
+abbrev pub IfRecord : {X : Type 0} → State → ℕ → Option X → (X → Type 0) → Type 0
+IfRecord s k told holds = MatchOption told (length s.table.tasks ≤ k) (λ x. (k < length s.table.tasks) × holds x)

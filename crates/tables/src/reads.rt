@@ -1,7 +1,7 @@
 // What can be read off the tables.
 
-ghost use Rattle.std.specs.Prelude.{◌≡◌, ◌<◌, ◌≤◌, List, length, MatchOption};
-ghost use Rattle.tables.specs.Places.{place_in};
+ghost use Rattle.std.specs.Prelude.{◌≡◌, List, length};
+ghost use Rattle.tables.specs.Places.{IfRecord, place_in};
 ghost use Rattle.tables.specs.View.{state};
 ghost use Rattle.rules.specs.Rules.{bytes_read, outcome_text};
 ghost use Rattle.rules.specs.State.{task_of, word_of};
@@ -29,16 +29,16 @@ impl Tables {
 
     // The record `k`, if there is one.
     pub fn task(&self, k: usize) -> Option<&Task>
-        ensures { (us : List Medium) → MatchOption result (length (state us self.now).table.tasks ≤ k) (λ t. (k < length (state us self.now).table.tasks) × (as_task t.now ≡ task_of (state us self.now) k)) }
+        ensures { (us : List Medium) → IfRecord (state us self.now) k result (λ t. as_task t.now ≡ task_of (state us self.now) k) }
     {
         (k < self.tasks.count()).then(|| self.tasks.task(k))
     }
 
     // Where the record `k` is, if there is one.
     pub fn place(&self, k: usize) -> Option<Place>
-        ensures { (us : List Medium) → MatchOption result (length (state us self.now).table.tasks ≤ k) (λ p. (k < length (state us self.now).table.tasks) × (p ≡ place_in (state us self.now) k)) }
+        ensures { (us : List Medium) → IfRecord (state us self.now) k result (λ p. p ≡ place_in (state us self.now) k) }
     {
-        // Tried as `then`: the proof did not close.
+        // Tried as `then` and as `then_some`: the proof did not close.
         if k < self.tasks.count() {
             Some(self.place_of(k))
         } else {

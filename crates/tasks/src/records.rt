@@ -17,6 +17,7 @@ impl Tasks {
         self.links.replace(t, with);
     }
 
+    // This and the next two put one field anew, each as the rule of its name does.
     pub fn give_word(&mut self, t: usize, word: u16)
         requires { t < length self.old.tasks }
         ensures { self.new ≡ change t (with_word word) self.old }

@@ -21,7 +21,7 @@ pub const ROOM: usize = 4_096;
 // every kind. A kind has no model of its own: the law on codes would then be owed of every
 // medium, also of those that no unit of the kind has.
 pub trait Unit {
-    // The device code of the kind, which an outcome tells.
+    // The device code of the kind, which an outcome tells. No clause of generic code can name it, so `device_code` stands for it.
     const CODE: u8;
 
     ghost medium: { Self → Medium };

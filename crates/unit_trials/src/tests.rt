@@ -18,14 +18,12 @@ fn marked(heap: Global, size: usize, mark: usize) -> Result<Vec<u8>, AllocError>
 
 // Hands the unit 1, 2, 3 and so on, `size` bytes in all; tells how many were taken.
 fn count_up<U: Unit>(unit: &mut U, size: u16) -> u16 {
-    let mut taken = 0;
     for i in 0..size {
         if unit.take(((i + 1) % 256) as u8).is_err() {
             return i;
         }
-        taken = i + 1;
     }
-    taken
+    size
 }
 
 #[test]

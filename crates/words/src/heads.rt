@@ -1,5 +1,6 @@
 // First words: what the first word of a call tells, both ways. In a call here, the length of a text stands for the text.
-// Sub-kinds have no enum of their own: they tell apart the cases of `Call`, `ByIdCall`, `Transfer` and `LookedAt`, which are it.
+// Sub-kinds have no enum of their own: they tell apart the cases of `Call`, `ByIdCall`, `Transfer` and `LookedAt`, most of which hold a
+// level, a length or a text.
 
 ghost use Rattle.std.specs.Prelude.{◌≡◌, ℕ, ◌+◌, ◌*◌, ◌/◌, ◌%◌, ◌<◌, ◌≤◌, Some, None, MatchOption, ◌≢◌};
 ghost use Rattle.calls.specs.declared.call.Call.{Call as Calls};

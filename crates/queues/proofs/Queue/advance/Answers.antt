@@ -5,8 +5,8 @@ use Rattle.queues.specs.View.{as_request, lined}
 use Rattle.queues.proofs.Requests.{requests-advanced, requests-empty, requests-first}
 use Rattle.queues.proofs.Queue.advance.Goals as goal
 
-pub overflow_add-first : goal.overflow_add-first
-overflow_add-first c =
+pub overflow_add-moved : goal.overflow_add-moved
+overflow_add-moved c =
     let w = c.in-Some.first in
     let is = requests-first (lined c.args.self.now) (lined c.args.self.now) (Some w) (c.in-Some.ensures (record { size = 0; moved = 0 })) in
     let l = c.requires (as_request w) (sym is) in
@@ -15,8 +15,8 @@ overflow_add-first c =
 pub returns-in_default : goal.returns-in_default
 returns-in_default c = record { requests = requests-empty (lined c.args.self.now) (lined c.args.self.now) (c.in_default.ensures (record { size = 0; moved = 0 })); room = refl }
 
-pub returns : goal.returns
-returns c = record {
+pub returns-in-Some : goal.returns-in-Some
+returns-in-Some c = record {
   requests = requests-advanced (lined c.args.self.now) (list (record { size = 0; moved = 0 }) c.replace_first.new.self) c.in-Some.first (c.in-Some.ensures (record { size = 0; moved = 0 })) (c.replace_first.ensures.list (record { size = 0; moved = 0 }));
   room = c.replace_first.ensures.room;
 }
