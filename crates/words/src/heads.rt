@@ -1,6 +1,6 @@
 // First words: what the first word of a call tells, both ways. In a call here, the length of a text stands for the text.
-// Sub-kinds have no enum of their own: they tell apart the cases of `Call`, `ByIdCall`, `Transfer` and `LookedAt`, most of which hold a
-// level, a length or a text.
+// Sub-kinds have no enum of their own: they tell apart the cases of `Call`, `ByIdCall` and `Transfer`, most of which hold a level, a
+// length or a text, and those of `LookedAt`, which stand in their order.
 
 ghost use Rattle.std.specs.Prelude.{◌≡◌, ℕ, ◌+◌, ◌*◌, ◌/◌, ◌%◌, ◌<◌, ◌≤◌, Some, None, MatchOption, ◌≢◌};
 ghost use Rattle.calls.specs.declared.call.Call.{Call as Calls};
@@ -40,11 +40,7 @@ fn by_id_word(id: u8, call: ByIdCall) -> u32
 fn look_word(at: LookedAt) -> u32
     ensures { word_bytes result ≡ first_word (Calls.Look at) }
 {
-    match at {
-        LookedAt::Message => word(Kind::Look, 0, 0, 0, 0),
-        LookedAt::Start => word(Kind::Look, 1, 0, 0, 0),
-        LookedAt::Outcome => word(Kind::Look, 2, 0, 0, 0),
-    }
+    word(Kind::Look, at as u8, 0, 0, 0)
 }
 
 fn transfer_word(unit: u8, transfer: Transfer<usize>) -> u32
