@@ -100,4 +100,44 @@ mod tests {
         assert_eq!(rt; monitor.status_id(5), Ok(1));
         Ok(())
     }
+
+    // Each of the 256 cells holds a message of its own.
+    #[test]
+    fn every_cell(rt: HostRuntime) -> Result<(), Fail> {
+        let mut monitor = started(rt.alloc(), 1, 1)?;
+        for n in 0..256u16 {
+            assert_eq!(rt; monitor.send((n % 256) as u8, n + 1, false), Ok(0));
+        }
+        for n in 0..256u16 {
+            assert_eq!(rt; monitor.cell((n % 256) as u8), n + 1);
+        }
+        Ok(())
+    }
+
+    // All of 64 tasks wait at one unit, and each has its byte punched.
+    #[test]
+    fn queue_of_sixty_four(rt: HostRuntime) -> Result<(), Fail> {
+        let mut monitor = started(rt.alloc(), 64, 0)?;
+        for id in 1..64u8 {
+            assert_eq!(rt; monitor.create(id, 255, 0, 0), Ok(u16::from(id)));
+        }
+        for _ in 0..64 {
+            assert_eq!(rt; monitor.write(1, b"A"), Ok(0));
+        }
+        assert_eq!(rt; monitor.running(), None);
+        for _ in 0..64 {
+            assert_eq!(rt; monitor.service(1), Ok(1));
+        }
+        assert_eq!(rt; monitor.service(1), Err(Refusal::NoRequest));
+        assert_eq!(rt; monitor.units().unit_1.taken().len(), 64);
+        Ok(())
+    }
+
+    #[test]
+    fn answers_out_of_range(rt: HostRuntime) {
+        let mut draft = Draft::new();
+        assert_eq!(rt; draft.answer_tasks(0), Err(Refusal::OutOfRange));
+        assert_eq!(rt; draft.answer_tasks(65), Err(Refusal::OutOfRange));
+        assert_eq!(rt; draft.answer_rate(5), Err(Refusal::OutOfRange));
+    }
 }
