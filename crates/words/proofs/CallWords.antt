@@ -7,7 +7,7 @@ use Rattle.calls.specs.declared.call.Transfer.TheVariants as moves
 use Rattle.std.proofs.lemmas.List.{drop_at, length-append, nil_from_length, take_at}
 use Rattle.calls.specs.declared.refusal.Refusal.TheVariants.{NoRoom}
 use Rattle.std.proofs.lemmas.Bool.Decides.{nat_tests}
-use Rattle.words.specs.Format.{call_words, data_word, data_words, first_word, text_words}
+use Rattle.words.specs.Format.{call_words, data_word, data_words, first_word, length_in, text_words}
 use Rattle.words.specs.Heads.{bare, word_bytes}
 use Rattle.words.specs.Reading.{OneCall, Reading, ReadsCall, Shorter, Writable}
 use Rattle.words.specs.Text.{text_length}
@@ -185,7 +185,7 @@ one_call c rest (Ok (Some (d, more))) r =
     cc
 
 -- how many bytes a call takes, by its first word
-pub words_size_lem : (c : Call (List ℕ)) → words_size (call_with length c) ≡ length (call_words c)
+words_size_lem : (c : Call (List ℕ)) → words_size (call_with length c) ≡ length (call_words c)
 words_size_lem (Transfer unit (moves.Write text)) = let n = length-text text in omega arith
 words_size_lem (Transfer unit (moves.WriteLine text)) = let n = length-text text in omega arith
 words_size_lem c = refl
@@ -197,6 +197,8 @@ told-full words out n e f = grind (arith, nat_tests)
 pub told-size : (words out : List ℕ) (n : ℕ) → n ≡ length words → n ≤ length out → told_writing words out ≡ Ok n
 told-size words out n e f = grind (arith, nat_tests)
 
--- a call that can be written is written if there is room
-pub told-call : (c : Call (List ℕ)) (out : List ℕ) → Writable c → told_call c out ≡ told_writing (call_words c) out
-told-call c out w = grind (arith, nat_tests)
+-- a call with a known head that can be written is written if there is room, and its size is the head's
+pub told-call : (c : Call (List ℕ)) (h : Call ℕ) (out : List ℕ) (n : ℕ) → h ≡ call_with length c → length_in h ≤ 255 → n ≡ words_size h → (n ≡ length (call_words c)) × (told_call c out ≡ told_writing (call_words c) out)
+told-call c h out n e w k =
+    let short : Writable c = omega (arith, ap length_in e) in
+    (k ∙ ap words_size e ∙ words_size_lem c, grind (arith, nat_tests))

@@ -1,13 +1,10 @@
 -- Bytes laid over others.
-use Rattle.std.proofs.Common.{◌≡◌, ℕ, ◌+◌, ◌-◌, ◌≤◌, List, [], ◌∷◌, ◌++◌, length, slice_index_or, take, drop, sym, refl, ap, ◌∙◌, append_assoc, arith}
-use Rattle.std.proofs.lemmas.List.{drop-drop, drop_more, length-append, length-drop, length-take-le, nil_from_length, take-append-drop, take_rest}
+use Rattle.std.proofs.Common.{◌≡◌, ℕ, ◌+◌, ◌-◌, ◌≤◌, List, ◌∷◌, ◌++◌, length, slice_index_or, take, drop, sym, refl, ap, ◌∙◌, append_assoc, arith}
+use Rattle.std.proofs.lemmas.List.{drop-drop, drop_more, length-append, length-drop, length-take-le, take_rest}
 use Rattle.std.proofs.lemmas.Slice.{drop-put_mid, take-put_mid}
 use Rattle.words.specs.Format.{text_words, word}
 use Rattle.words.specs.Heads.{word_bytes}
 use Rattle.words.specs.Writing.{laid}
-
-pub laid_none : (at : ℕ) (out : List ℕ) → laid at [] out ≡ out
-laid_none at out = take-append-drop at out
 
 pub laid-length : (at : ℕ) (xs out : List ℕ) → at + length xs ≤ length out → length (laid at xs out) ≡ length out
 laid-length at xs out h =
@@ -27,7 +24,7 @@ laid_more at to xs ys out e h =
     let s : at + length (xs ++ ys) ≡ to + length ys = omega arith in
     cc
 
--- the words of a text of three bytes or more, and of none
+-- the words of a text of three bytes or more
 pub three_first : (xs : List ℕ) → 3 ≤ length xs → text_words xs ≡ word 0 0 (slice_index_or xs 0 0) (slice_index_or xs 1 0) (slice_index_or xs 2 0) ++ text_words (take (length xs - 3) (drop 3 xs))
 three_first xs h =
     let a = drop_more xs 0 0 (omega arith) in
@@ -36,9 +33,6 @@ three_first xs h =
     let r = take_rest xs 3 in
     let e : xs ≡ slice_index_or xs 0 0 ∷ slice_index_or xs 1 0 ∷ slice_index_or xs 2 0 ∷ take (length xs - 3) (drop 3 xs) = cc in
     ap text_words e
-
-pub none_last : (xs : List ℕ) → length xs ≡ 0 → text_words xs ≡ []
-none_last xs h = ap text_words (nil_from_length xs h)
 
 -- a word more of a text that is being laid
 pub laid_word : (at w : ℕ) (rest out now' all : List ℕ) → 3 ≤ length rest → word_bytes w ≡ word 0 0 (slice_index_or rest 0 0) (slice_index_or rest 1 0) (slice_index_or rest 2 0) → now' ≡ laid at (word_bytes w) out
