@@ -5,9 +5,6 @@ use Rattle.tasks.proofs.Placing.{changed_unplaced}
 use Rattle.tables.proofs.Stands.{kept}
 use Rattle.own.proofs.suspend.Goals as goal
 
-pub set_mark-requires : goal.set_mark-requires
-set_mark-requires c = (c.stop.ensures.left c.in_ok-caller.caller (sym c.in_ok-caller.ensures.runs)).within
-
 pub suspend-requires : goal.suspend-requires
 suspend-requires c = rw c.set_mark.ensures (changed_unplaced _ (c.stop.ensures.left c.in_ok-caller.caller (sym c.in_ok-caller.ensures.runs)))
 
