@@ -12,10 +12,11 @@ pub returns-then-task-caller : goal.returns-then-task-caller
 returns-then-task-caller c =
     same_step (λ us. own_kill (state us c.args.tables.now) c.in_ok-caller.caller c.in-Some.task c.args.id c.in_ok-caller.ensures.runs c.in-Some.ensures c.if-task-caller.true) c.kill.ensures
 
-pub kill_other-requires : goal.kill_other-requires
-kill_other-requires c =
-    let f = found c.args.id c.in-Some.task c.args.tables.now.tasks (sym c.in-Some.ensures) in
-    record { within = f.inside; live = f.live; other = λ e. c.if-task-caller.false (let r = c.in_ok-caller.ensures.runs in cc) }
+pub kill_other-requires-clause-within : goal.kill_other-requires-clause-within
+kill_other-requires-clause-within c = (found c.args.id c.in-Some.task c.args.tables.now.tasks (sym c.in-Some.ensures)).inside
+
+pub kill_other-requires-clause-live : goal.kill_other-requires-clause-live
+kill_other-requires-clause-live c = (found c.args.id c.in-Some.task c.args.tables.now.tasks (sym c.in-Some.ensures)).live
 
 pub invariant_of-tables : goal.invariant_of-tables
 invariant_of-tables c = record { stands = kept c.args.tables.now (ById c.args.id by.Kill) tt (search rules) (search rules) }
