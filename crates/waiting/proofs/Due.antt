@@ -1,7 +1,6 @@
 -- Waits for due ticks that end one by one, and how many they are.
-use Rattle.std.proofs.Common.{◌≡◌, ℕ, ◌+◌, ◌≤◌, List, [], ◌∷◌, length, Some, None, sym, refl, ap, ◌∙◌, subst, arith}
+use Rattle.std.proofs.Common.{◌≡◌, ℕ, ◌+◌, ◌≤◌, List, [], ◌∷◌, length, Some, sym, ap, ◌∙◌, subst, arith}
 use Rattle.std.proofs.lemmas.Bool.Decides.{nat_tests}
-use Rattle.chain.specs.Lists.{first}
 use Rattle.clock.specs.declared.ClockWaits.{ClockWaits}
 use Rattle.clock.specs.Due.{ReleasedOne}
 use Rattle.clock.specs.View.{room, sleeping}
@@ -11,7 +10,7 @@ use Rattle.rules.specs.Tables.{release, release_all}
 use Rattle.rules.specs.Clock.{due_at, later_than}
 use Rattle.rules.specs.Records.{sleepers}
 use Rattle.tables.specs.Spread.{Spread}
-use Rattle.waiting.proofs.Handed.{none_there, spread-release}
+use Rattle.waiting.proofs.Handed.{spread-release}
 
 module _ (reading : ℕ) where
   -- those that are due at the reading
@@ -33,12 +32,6 @@ module _ (reading : ℕ) where
       waits = r.later ∙ h.waits;
       told = omega (arith, ap length r.due);
     }
-
-    pub releasing-done : ReleasedOne reading None ws vs → None ≡ first (due ws) → (a ≡ release_all (due ws₀) a₀) × (vs ≡ later_than reading ws₀) × (n ≡ length (due ws₀))
-    releasing-done r f =
-        let none = none_there (due ws) f in
-        let told = h.told in
-        (sym (ap (λ ts. release_all ts a) none) ∙ h.table, r.done refl ∙ h.waits, omega (arith, ap length none))
 
   due-fewer : (ws : List ClockWait) → length (due ws) ≤ length (sleepers ws)
   due-fewer [] = omega arith

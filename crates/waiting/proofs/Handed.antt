@@ -1,8 +1,8 @@
 -- Tasks whose waits end one by one, each released into the table.
-use Rattle.std.proofs.Common.{◌≡◌, ℕ, ◌+◌, List, [], ◌∷◌, length, Some, None, sym, refl, ap, ◌∙◌, subst, arith}
+use Rattle.std.proofs.Common.{◌≡◌, ℕ, ◌+◌, List, length, Some, sym, ap, ◌∙◌, subst, arith}
 use Rattle.std.specs.Option.{option_to_list}
 use Rattle.std.proofs.lemmas.Bool.Decides.{nat_tests}
-use Rattle.chain.specs.Lists.{count, first, one}
+use Rattle.chain.specs.Lists.{count, one}
 use Rattle.rules.proofs.Counts.{in_change, in_hand, in_release, one_same, size-change, tasks-release}
 use Rattle.tasks.proofs.Places.{size-hand}
 use Rattle.tasks.specs.Parts.{Unplaced}
@@ -37,10 +37,6 @@ spread-still t f a b c m x y to is s =
     subst (λ (d : Table). Spread d (waiters y.waits)) (sym to) (subst (λ (z : Cells). Spread (change t f a) (waiters z.waits)) (sym is)
     (λ k. let p = s k in let n = size-change t f a in let i = in_change k t f a in grind (arith, nat_tests)))
 
-pub none_there : {A : Type 0} (xs : List A) → None ≡ first xs → xs ≡ []
-none_there [] f = refl
-none_there (x ∷ xs) f = cc
-
 -- The receivers at a cell -----------------------------------------------------------------------------------------------------
 
 -- what is left to do makes up what was to be done
@@ -56,9 +52,3 @@ module _ {c m : ℕ} {a₀ : Table} {x₀ : Cells} {a : Table} {x y : Cells} (h 
     table = ap (hand_all m (tasks_at c y.waits)) to ∙ sym (ap (λ ts. hand_all m ts a) e.here) ∙ h.table;
     cells = ap (empty_cell c) is ∙ ap (λ ws. record { words = x.words; waits = ws }) (sym (ap (λ (z : Cells). elsewhere c z.waits) is) ∙ e.others) ∙ h.cells;
   }
-
-  pub handing-done : EndedOne c None x.waits y.waits → None ≡ first (tasks_at c x.waits) → (a ≡ hand_all m (tasks_at c x₀.waits) a₀) × (y ≡ empty_cell c x₀)
-  handing-done e f = (
-    sym (ap (λ ts. hand_all m ts a) (none_there (tasks_at c x.waits) f)) ∙ h.table,
-    is ∙ ap (λ ws. record { words = x.words; waits = ws }) (sym (ap (λ (z : Cells). z.waits) is) ∙ e.done refl) ∙ h.cells,
-  )

@@ -1,19 +1,11 @@
--- The caller, which runs, is one of the records and waits nowhere; a sender that stayed is not in the table.
-use Rattle.std.proofs.Common.{arith, rules}
+-- A sender that stayed is not in the table.
+use Rattle.std.proofs.Common.{rules}
 use Rattle.calls.specs.declared.call.Call.TheVariants.{Wait}
 use Rattle.cells.specs.View.{cells}
 use Rattle.rules.specs.State.{with_word}
 use Rattle.waiting.proofs.Handed.{spread-still}
 use Rattle.tables.proofs.Stands.{kept, spread-cells}
 use Rattle.waiting.proofs.mail.wait.Goals as goal
-
-pub join-requires : goal.join-requires
-join-requires c =
-    let k = c.args.tables.now in
-    let h = c.in_ok-caller.ensures in
-    let r = c.args.tables.now.stands.waiters in
-    let w = h.within in
-    record { within = omega arith; fresh = h.heard }
 
 pub release_sender-requires : goal.release_sender-requires
 release_sender-requires c =

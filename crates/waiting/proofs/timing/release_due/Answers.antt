@@ -1,13 +1,10 @@
 -- Each task is nowhere in the table while its wait ends, and there are at most 64.
-use Rattle.std.proofs.Common.{length, refl, ap, ◌∙◌, arith}
+use Rattle.std.proofs.Common.{length, ap, ◌∙◌, arith}
 use Rattle.clock.specs.View.{sleeping}
 use Rattle.rules.specs.Records.{sleepers}
 use Rattle.waiting.proofs.Handed.{away}
-use Rattle.waiting.proofs.Due.{due-few, releasing-done, releasing-more}
+use Rattle.waiting.proofs.Due.{due-few, releasing-more}
 use Rattle.waiting.proofs.timing.release_due.Goals as goal
-
-pub loop-task-init : goal.loop-task-init
-loop-task-init c = (record { spread = c.requires.spread; table = refl; waits = refl; told = omega arith }, refl)
 
 pub release-requires : goal.release-requires
 release-requires c =
@@ -21,18 +18,9 @@ overflow_add-count c =
     let p = c.requires.few in
     omega (arith, l.invariant.0.told, ap length c.in-Some.ensures.laws.due)
 
-pub loop-task-smaller : goal.loop-task-smaller
-loop-task-smaller c = omega (arith, ap length c.in-Some.ensures.laws.due)
-
 pub loop-task-preserved : goal.loop-task-preserved
 loop-task-preserved c =
     let l = c.loop-task in let k = c.in-Some.ensures in (
       releasing-more c.args.reading l.invariant.0 k.laws c.release.ensures,
       k.room ∙ l.invariant.1,
     )
-
-pub returns : goal.returns
-returns c =
-    let l = c.loop-task in let k = c.in_default.ensures in
-    let h = releasing-done c.args.reading l.invariant.0 k.laws k.first in
-    record { table = h.0; waits = h.1; count = h.2; room = k.room ∙ l.invariant.1 }

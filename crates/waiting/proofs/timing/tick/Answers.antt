@@ -1,11 +1,8 @@
--- The clock reads at most its last reading, those that wait for a due tick are not in the table, and there is place for all.
+-- A step of the rules keeps what holds of the tables.
 use Rattle.std.proofs.Common.{◌≡◌, Some, refl, arith, rules}
 use Rattle.calls.specs.declared.call.Call.TheVariants.{Tick}
-use Rattle.tables.proofs.Stands.{kept, spread-clock}
+use Rattle.tables.proofs.Stands.{kept}
 use Rattle.waiting.proofs.timing.tick.Goals as goal
-
-pub release_due-count-requires : goal.release_due-count-requires
-release_due-count-requires c = let h = c.args.tables.now.stands in let f = h.few in let r = h.sleepers in record { spread = spread-clock c.args.tables.now; few = omega arith }
 
 pub invariant_of-tables : goal.invariant_of-tables
 invariant_of-tables c =
