@@ -8,7 +8,7 @@ use Rattle.std.specs.Bool.{then_some}
 use Rattle.std.specs.Option.{option_to_list}
 use Rattle.std.specs.Prelude.{MatchResult, None, is_some, ok_or, replicate, unwrap_or}
 use Rattle.calls.specs.declared.refusal.Refusal.TheVariants.{NoTask}
-use Rattle.std.proofs.lemmas.Bool.{and_parts, le-leb, leb-true}
+use Rattle.std.proofs.lemmas.Bool.{and_parts}
 use Rattle.std.proofs.lemmas.Bool.Decides.{nat_tests}
 use Rattle.chain.specs.Lists.{count, first, one, rest}
 use Rattle.chain.proofs.Members.{count_none}
@@ -23,7 +23,6 @@ use Rattle.queues.specs.declared.number.UnitNumber.{UnitNumber}
 use Rattle.unit.specs.Medium.{Medium}
 use Rattle.rules.specs.State.{Cells, ClockWait, Request, State, Table, Task, begin, begin_cells, begin_table, blank, record_in, with_units}
 use Rattle.rules.specs.Tables.{change, stop}
-use Rattle.rules.specs.Clock.{last_reading}
 use Rattle.rules.specs.Records.{all_askers, askers, sleepers, waiters}
 use Rattle.rules.specs.Rules.{Step, apply}
 use Rattle.rules.specs.Laws.{Lawful}
@@ -123,17 +122,9 @@ called k (Some t) e = caller k t e
 
 -- Waits -----------------------------------------------------------------------------------------------------------------------
 
-module _ (k : Tables) where
-  -- those that wait at cells, or for a due tick, are not in the table
-  pub spread-cells : Spread k.tasks (waiters (cells.cells k.cells).waits)
-  spread-cells t = let o = one_place k t in grind (arith, nat_tests)
-
-  pub spread-clock : Spread k.tasks (sleepers (clock.sleeping k.waits))
-  spread-clock t = let o = one_place k t in grind (arith, nat_tests)
-
-  -- the clock reads at most its last reading
-  pub clock-bound : (reading : ℕ) → k.clock ≡ Some reading → reading ≤ last_reading
-  clock-bound reading e = leb-true reading last_reading (∥∥₁_elim k.stands.state (Bool-set _ _) (λ h. le-leb reading last_reading (subst (λ (o : Option ℕ). unwrap_or o 0 ≤ last_reading) e h.sound.clock)))
+-- those that wait at cells are not in the table
+pub spread-cells : (k : Tables) → Spread k.tasks (waiters (cells.cells k.cells).waits)
+spread-cells k t = let o = one_place k t in grind (arith, nat_tests)
 
 -- Requests --------------------------------------------------------------------------------------------------------------------
 
