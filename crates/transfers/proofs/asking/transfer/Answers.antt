@@ -1,5 +1,5 @@
--- The caller is one of the records and waits nowhere; what it asks for is what the rules ask for.
-use Rattle.std.proofs.Common.{List, Ok, Err, sym, refl, ap, ◌∙◌, arith, rules}
+-- What is asked for is what the rules ask for.
+use Rattle.std.proofs.Common.{List, Ok, Err, refl, ap, ◌∙◌}
 use Rattle.calls.specs.Calls.{transfer_with}
 use Rattle.calls.specs.declared.call.Call.TheVariants.{Transfer}
 use Rattle.rules.specs.Rules.{apply}
@@ -17,25 +17,10 @@ not_done : (c : In_err-asked) (us : List Medium)
     → Is (state us c.args.tables.now) (Err c.in_err-asked.field-0.0) (apply (Transfer c.args.unit (transfer_with (λ t. t.now) c.args.transfer)) (state us c.args.tables.now))
 not_done c us = refused c.args.unit (transfer_with (λ t. t.now) c.args.transfer) c.in_ok-caller.ensures c.in_ok-at.ensures us c.in_err-asked.ensures
 
-pub returns-in_err-at : goal.returns-in_err-at
-returns-in_err-at c = record { state = λ us. search rules; answer = λ us. search rules; room = (refl, refl, refl) }
-
 pub returns-in_err-asked : goal.returns-in_err-asked
 returns-in_err-asked c =
     let p = err_from_is_err_and c.from_residual-in_err-asked.result c.from_residual-in_err-asked.ensures.1 in
     record { state = λ us. (not_done (at-returns-in_err-asked c).In_err-asked us).state; answer = λ us. p.1 ∙ ap Err p.2 ∙ (not_done (at-returns-in_err-asked c).In_err-asked us).answer; room = (refl, refl, refl) }
-
-pub join-requires : goal.join-requires
-join-requires c =
-    let h = c.in_ok-caller.ensures in
-    let r = c.args.tables.now.stands in
-    record { within = omega (arith, h.within, r.askers); fresh = h.served }
-
-pub task-requires : goal.task-requires
-task-requires c = (c.stop.ensures.left c.in_ok-caller.caller (sym c.in_ok-caller.ensures.runs)).within
-
-pub replace-requires : goal.replace-requires
-replace-requires c = (c.stop.ensures.left c.in_ok-caller.caller (sym c.in_ok-caller.ensures.runs)).within
 
 -- the transfer, as the rules see it
 done : (c : After-turn) (us : List Medium)
