@@ -11,6 +11,5 @@ same_kind o p k l a b c = cc
 
 pub returns-in_default : goal.returns-in_default
 returns-in_default c running reply n e =
-    let was : c.kind.result ≡ Some c.in_ok-kind.field-0 = search rules in
-    let same = λ (k : Kind). same_kind c.kind.result (kind_of c.args.word) c.in_ok-kind.field-0 k was c.kind.ensures in
+    let same = λ (k : Kind). same_kind c.kind.result (kind_of c.args.word) c.in_ok-kind.field-0 k (search rules) c.kind.ensures in
     ⊎_elim (λ k. c.in_default.not-Granted (same kind.Granted k)) (λ k. c.in_default.not-Refused (same kind.Refused k)) (reply_kind running reply c.args.word e)
