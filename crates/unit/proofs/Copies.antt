@@ -1,19 +1,10 @@
--- One step of a copy, and its ends: what is left to copy comes to the same.
-use Rattle.std.proofs.Common.{◌≡◌, ℕ, zero, suc, ◌+◌, ◌-◌, false, List, [], ◌∷◌, ◌++◌, length, take, drop, is_err, None, Ok, Err, refl, ap, add-one, arith}
-use Rattle.std.proofs.lemmas.List.{append-nil, append_assoc}
+-- One step of a copy, after which what is left to copy comes to the same, and the byte left over.
+use Rattle.std.proofs.Common.{◌≡◌, ℕ, zero, suc, ◌+◌, ◌-◌, false, List, [], ◌∷◌, ◌++◌, length, take, drop, is_err, Ok, refl, ap, add-one, arith}
+use Rattle.std.proofs.lemmas.List.{append_assoc}
 use Rattle.unit.specs.Medium.{Medium, after_give, after_take, told_give, told_take}
 use Rattle.unit.specs.Copying.{copied, first_byte}
 use Rattle.std.specs.Option.{option_to_list}
-use Rattle.unit.specs.declared.faults.UnitFault.{UnitFault}
-use Rattle.unit.proofs.Meaning.{fits_one, told-end, told-first, told-no-full}
-
-take_none : (n : ℕ) → take {A = ℕ} n [] ≡ []
-take_none zero = refl
-take_none (suc n) = refl
-
-drop-none : (n : ℕ) → drop {A = ℕ} n [] ≡ []
-drop-none zero = refl
-drop-none (suc n) = refl
+use Rattle.unit.proofs.Meaning.{fits_one, told-first, told-no-full}
 
 step-at : (m n : Medium) (b : ℕ) (bs : List ℕ) (r : ℕ) → m.coming ≡ b ∷ bs → n.room ≡ suc r → copied (after_give m) (after_take b n) ≡ copied m n
 step-at m n b bs r coming room =
@@ -28,13 +19,6 @@ pub step : (m n m1 n1 : Medium) (b : ℕ) → told_give m ≡ Ok b → is_err (t
 step m n m1 n1 b gave took source target =
     let s = step-at m n b (drop 1 m.coming) (n.room - 1) (told-first m.coming b gave) (told-no-full n.room took) in
     rw (source, target) s
-
--- nothing was to come
-pub ended : (m n m1 : Medium) (e : UnitFault) → told_give m ≡ Err e → m1 ≡ after_give m → copied m n ≡ record { source = m1; target = n; left_over = None }
-ended m n m1 e told source =
-    let coming = told-end m.coming e told in
-    let room : n.room - 0 ≡ n.room = omega arith in
-    rw (source, coming) (simp (take_none, drop-none, append-nil, room))
 
 one-first : (r : ℕ) (cs : List ℕ) → take (suc r) cs ≡ take r cs ++ option_to_list (first_byte (drop r cs))
 one-first zero [] = refl
