@@ -1,5 +1,5 @@
 -- What a write to one link does to the chains, and so what the operations leave.
-use Rattle.std.proofs.Common.{◌≡◌, ℕ, zero, suc, ◌+◌, ◌-◌, ◌<◌, ◌≤◌, Bool, true, false, ◌==◌, nat_lt, ◌≢◌, List, [], ◌∷◌, length, get_or, set, Some, None, Option, sym, refl, ap, ◌∙◌, subst, arith, length-set, get_or-set_other, get_or-set_same}
+use Rattle.std.proofs.Common.{◌≡◌, ℕ, zero, suc, ◌-◌, ◌<◌, ◌≤◌, Bool, true, false, ◌==◌, nat_lt, ◌≢◌, List, [], ◌∷◌, length, get_or, set, Some, None, Option, sym, refl, ap, ◌∙◌, subst, arith, length-set, get_or-set_other, get_or-set_same}
 use Rattle.std.proofs.lemmas.Bool.{eqb-true}
 use Rattle.std.proofs.lemmas.Bool.Decides.{nat_tests}
 use Rattle.chain.specs.Lists.{has, without, join, rising}
@@ -227,11 +227,3 @@ rising-put ns ms ls g h n j i e l a b =
     then ns ms ls g h (rising i (n - i)) (rising j (n - j)) (rising i (n - i)) (rising j (n - j))
     (λ k off. let o = sym (ap (has k) (rising-more n j i e l)) ∙ off in grind (arith, nat_tests))
     a (subst (λ xs. Relinked ms ls h xs xs) is b)
-
-pub rising-all : (ns ms : List (Option ℕ)) (h : Option ℕ) (n i : ℕ) → i ≤ 1 → i ≤ n → n ≤ i + (n - 1) → Relinked ns ms h (rising i (n - i)) (rising i (n - i))
-    → Relinked ns ms h (rising 1 (n - 1)) (rising 1 (n - 1))
-rising-all ns ms h n i one within past a = subst (λ xs. Relinked ns ms h xs xs) (same n one within past) a
-  where
-    same : (n : ℕ) → i ≤ 1 → i ≤ n → n ≤ i + (n - 1) → rising i (n - i) ≡ rising 1 (n - 1)
-    same zero a b c = let z : 0 - i ≡ 0 = omega arith in ap (rising i) z
-    same (suc n) a b c = let z : i ≡ 1 = omega arith in ap (λ k. rising k (suc n - k)) z

@@ -2,7 +2,7 @@
 use Rattle.std.proofs.Common.{◌-◌, length, None, sym, refl, ◌∙◌, subst, arith}
 use Rattle.chain.specs.Lists.{rising}
 use Rattle.chain.specs.Chains.{Relinked, nexts}
-use Rattle.chain.proofs.Writes.{rising-fresh, rising_none, rising-put, rising-all}
+use Rattle.chain.proofs.Writes.{rising-fresh, rising_none, rising-put}
 use Rattle.chain.proofs.Links.link_all_but_first.Goals as goal
 
 pub loop-i-init : goal.loop-i-init
@@ -28,10 +28,3 @@ loop-i-preserved g c =
       records = v.records ∙ l.invariant.records;
       past = omega arith;
     }
-
-pub returns-clause-links : goal.returns-clause-links
-returns-clause-links g c =
-    let l = c.loop-i in
-    let ns = nexts c.args.self.now in
-    let past = l.invariant.past in
-    rising-all ns (nexts l.self) l.head (length ns) l.i (omega arith) (omega arith) past l.invariant.links

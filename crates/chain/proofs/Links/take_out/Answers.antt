@@ -1,5 +1,5 @@
 -- The number is unlinked where it is on the chain, and where it is not the chain is already without it.
-use Rattle.std.proofs.Common.{sym, refl, ◌∙◌}
+use Rattle.std.proofs.Common.{sym, ◌∙◌}
 use Rattle.chain.specs.Chains.{nexts}
 use Rattle.chain.proofs.Orders.{taken-out-by}
 use Rattle.chain.proofs.Leads.{chain-once}
@@ -9,8 +9,5 @@ use Rattle.chain.proofs.Links.take_out.Goals as goal
 pub returns-then-is_on-clause-laws : goal.returns-then-is_on-clause-laws
 returns-then-is_on-clause-laws g c = taken-out-by c.args.i _ _ (chain-once (nexts c.args.self.now) c.args.head.now c.requires) c.unlink.ensures.links.list
 
-pub returns-else-is_on : goal.returns-else-is_on
-returns-else-is_on g c =
-    let ns = nexts c.args.self.now in
-    let u = out_of_none ns c.args.head.now c.args.i c.requires (sym c.is_on.ensures ∙ c.if-is_on.false) in
-    record { links = u; records = refl; laws = taken-out-by c.args.i _ _ (chain-once ns c.args.head.now c.requires) u.list }
+pub returns-else-is_on-clause-links : goal.returns-else-is_on-clause-links
+returns-else-is_on-clause-links g c = out_of_none (nexts c.args.self.now) c.args.head.now c.args.i c.requires (sym c.is_on.ensures ∙ c.if-is_on.false)
