@@ -11,8 +11,8 @@ invariant_of-self c =
     let is = wait_left c.args.t (list (record { due = 0 }) x) (list (record { due = 0 }) y) (c.leave.ensures.list (record { due = 0 })) in
     record { sorted = left-by-due c.args.t (waits_of x) (waits_of y) is c.args.self.now.sorted }
 
-pub returns : goal.returns
-returns c =
+pub returns-clause-waits : goal.returns-clause-waits
+returns-clause-waits c =
     let x = c.args.self.now.line in
     let y = c.leave.new.self in
-    record { waits = wait_left c.args.t (list (record { due = 0 }) x) (list (record { due = 0 }) y) (c.leave.ensures.list (record { due = 0 })); room = c.leave.ensures.room }
+    wait_left c.args.t (list (record { due = 0 }) x) (list (record { due = 0 }) y) (c.leave.ensures.list (record { due = 0 }))

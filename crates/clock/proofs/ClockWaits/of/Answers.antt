@@ -9,8 +9,5 @@ use Rattle.clock.proofs.ClockWaits.of.Goals as goal
 pub invariant_of-result : goal.invariant_of-result
 invariant_of-result c = let x = c.in_ok-line.line in record { sorted = ap (sorted (λ (w : rules.ClockWait). w.due)) (none_wait (list (record { due = 0 }) x) (c.in_ok-line.ensures.list (record { due = 0 }))) }
 
-pub returns : goal.returns
-returns c = let x = c.in_ok-line.line in record {
-  waits = none_wait (list (record { due = 0 }) x) (c.in_ok-line.ensures.list (record { due = 0 }));
-  room = c.in_ok-line.ensures.room;
-}
+pub returns-clause-waits : goal.returns-clause-waits
+returns-clause-waits c = none_wait (list (record { due = 0 }) c.in_ok-line.line) (c.in_ok-line.ensures.list (record { due = 0 }))
