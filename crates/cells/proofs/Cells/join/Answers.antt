@@ -8,14 +8,11 @@ use Rattle.cells.specs.View.{lined}
 use Rattle.cells.proofs.Waits.{waiters_are, waits-joined}
 use Rattle.cells.proofs.Cells.join.Goals as goal
 
-pub join-requires : goal.join-requires
-join-requires c = record { within = c.requires.within; fresh = sym (ap (has c.args.t) (waiters_are c.args.self.now)) ∙ c.requires.fresh }
+pub join-requires-clause-fresh : goal.join-requires-clause-fresh
+join-requires-clause-fresh c = sym (ap (has c.args.t) (waiters_are c.args.self.now)) ∙ c.requires.fresh
 
-pub returns : goal.returns
-returns c =
+pub returns-clause-cells : goal.returns-clause-cells
+returns-clause-cells c =
     let x = c.args.self.now in
-    record {
-      cells = ap (λ (ws : List rules.CellWait). record { words = x.words; waits = ws })
-          (waits-joined (lined x) (list (record { cell = 0 }) c.join.new.self) (waiting c.args.t (record { cell = c.args.cell })) (c.join.ensures.list (record { cell = 0 })));
-      room = c.join.ensures.room;
-    }
+    ap (λ (ws : List rules.CellWait). record { words = x.words; waits = ws })
+    (waits-joined (lined x) (list (record { cell = 0 }) c.join.new.self) (waiting c.args.t (record { cell = c.args.cell })) (c.join.ensures.list (record { cell = 0 })))

@@ -6,10 +6,7 @@ use Rattle.cells.specs.View.{lined}
 use Rattle.cells.proofs.Waits.{waits-left}
 use Rattle.cells.proofs.Cells.leave.Goals as goal
 
-pub returns : goal.returns
-returns c =
+pub returns-clause-cells : goal.returns-clause-cells
+returns-clause-cells c =
     let x = c.args.self.now in
-    record {
-      cells = ap (λ (ws : List rules.CellWait). record { words = x.words; waits = ws }) (waits-left (lined x) (list (record { cell = 0 }) c.leave.new.self) c.args.t (c.leave.ensures.list (record { cell = 0 })));
-      room = c.leave.ensures.room;
-    }
+    ap (λ (ws : List rules.CellWait). record { words = x.words; waits = ws }) (waits-left (lined x) (list (record { cell = 0 }) c.leave.new.self) c.args.t (c.leave.ensures.list (record { cell = 0 })))

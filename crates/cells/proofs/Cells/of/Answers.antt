@@ -5,10 +5,7 @@ use Rattle.rules.specs.State as rules
 use Rattle.cells.proofs.Waits.{waits-none}
 use Rattle.cells.proofs.Cells.of.Goals as goal
 
-pub returns : goal.returns
-returns c =
+pub returns-clause-cells : goal.returns-clause-cells
+returns-clause-cells c =
     let ws = list (record { cell = 0 }) c.in_ok-line.line in
-    record {
-      cells = ap (λ (vs : List rules.CellWait). record { words = replicate 256 0; waits = vs }) (waits-none ws ws (c.in_ok-line.ensures.list (record { cell = 0 })));
-      room = c.in_ok-line.ensures.room;
-    }
+    ap (λ (vs : List rules.CellWait). record { words = replicate 256 0; waits = vs }) (waits-none ws ws (c.in_ok-line.ensures.list (record { cell = 0 })))
