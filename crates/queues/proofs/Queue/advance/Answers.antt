@@ -1,5 +1,5 @@
 -- The first request has one more byte moved, and keeps its place.
-use Rattle.std.proofs.Common.{Some, sym, refl, arith}
+use Rattle.std.proofs.Common.{Some, sym, arith}
 use Rattle.line.specs.View.{list}
 use Rattle.queues.specs.View.{as_request, lined}
 use Rattle.queues.proofs.Requests.{requests-advanced, requests-empty, requests-first}
@@ -12,11 +12,9 @@ overflow_add-moved c =
     let l = c.requires (as_request w) (sym is) in
     omega arith
 
-pub returns-in_default : goal.returns-in_default
-returns-in_default c = record { requests = requests-empty (lined c.args.self.now) (lined c.args.self.now) (c.in_default.ensures (record { size = 0; moved = 0 })); room = refl }
+pub returns-in_default-clause-requests : goal.returns-in_default-clause-requests
+returns-in_default-clause-requests c = requests-empty (lined c.args.self.now) (lined c.args.self.now) (c.in_default.ensures (record { size = 0; moved = 0 }))
 
-pub returns-in-Some : goal.returns-in-Some
-returns-in-Some c = record {
-  requests = requests-advanced (lined c.args.self.now) (list (record { size = 0; moved = 0 }) c.replace_first.new.self) c.in-Some.first (c.in-Some.ensures (record { size = 0; moved = 0 })) (c.replace_first.ensures.list (record { size = 0; moved = 0 }));
-  room = c.replace_first.ensures.room;
-}
+pub returns-in-Some-clause-requests : goal.returns-in-Some-clause-requests
+returns-in-Some-clause-requests c =
+    requests-advanced (lined c.args.self.now) (list (record { size = 0; moved = 0 }) c.replace_first.new.self) c.in-Some.first (c.in-Some.ensures (record { size = 0; moved = 0 })) (c.replace_first.ensures.list (record { size = 0; moved = 0 }))

@@ -7,11 +7,9 @@ use Rattle.queues.specs.View.{lined}
 use Rattle.queues.proofs.Requests.{askers_are, requests-joined}
 use Rattle.queues.proofs.Queue.join.Goals as goal
 
-pub join-requires : goal.join-requires
-join-requires c = record { within = c.requires.within; fresh = sym (ap (has c.args.t) (askers_are c.args.self.now)) ∙ c.requires.fresh }
+pub join-requires-clause-fresh : goal.join-requires-clause-fresh
+join-requires-clause-fresh c = sym (ap (has c.args.t) (askers_are c.args.self.now)) ∙ c.requires.fresh
 
-pub returns : goal.returns
-returns c = record {
-  requests = requests-joined (lined c.args.self.now) (list (record { size = 0; moved = 0 }) c.join.new.self) (waiting c.args.t (record { size = c.args.size; moved = 0 })) (c.join.ensures.list (record { size = 0; moved = 0 }));
-  room = c.join.ensures.room;
-}
+pub returns-clause-requests : goal.returns-clause-requests
+returns-clause-requests c =
+    requests-joined (lined c.args.self.now) (list (record { size = 0; moved = 0 }) c.join.new.self) (waiting c.args.t (record { size = c.args.size; moved = 0 })) (c.join.ensures.list (record { size = 0; moved = 0 }))
