@@ -2,14 +2,11 @@
 use Rattle.tasks.proofs.Tables.{not-suspended, suspended, within-links}
 use Rattle.tasks.proofs.Tasks.suspend.Goals as goal
 
-pub put_first-requires : goal.put_first-requires
-put_first-requires c =
-    let x = c.self.inside in
-    record {
-      ends = c.self.invariant.ends.2;
-      within = within-links x c.args.t (rw c.self.view_is c.requires.within);
-      fresh = not-suspended x c.args.t (rw c.self.view_is c.requires);
-    }
+pub put_first-requires-clause-within : goal.put_first-requires-clause-within
+put_first-requires-clause-within c = within-links c.self.inside c.args.t (rw c.self.view_is c.requires.within)
+
+pub put_first-requires-clause-fresh : goal.put_first-requires-clause-fresh
+put_first-requires-clause-fresh c = not-suspended c.self.inside c.args.t (rw c.self.view_is c.requires)
 
 pub invariant_of-self : goal.invariant_of-self
 invariant_of-self c = let u = c.put_first in (suspended c.self.inside c.self.invariant c.args.t (rw c.self.view_is c.requires) u.new.self u.new.head u.ensures.records u.ensures.links).kept
