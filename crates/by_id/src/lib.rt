@@ -13,7 +13,8 @@ use calls::{ByIdCall, Refusal};
 use own::{kill, or_else, set_level, suspend};
 use tables::Tables;
 
-// Each call below finds its task by itself and refuses where none is, which is the form that these calls keep.
+// Each call below finds its task by itself and refuses from a `let .. else`: the project has fixed that form for these calls
+// (docs/DECISIONS.md).
 
 // A call on the task with the id: the one entry for all five, whose names are the calls'.
 pub fn by_id(tables: &mut Tables, id: u8, call: ByIdCall) -> Result<u16, Refusal>

@@ -3,7 +3,8 @@
 // Several chains share a table. A chain is known by its head, the number of its first record,
 // and means the list of its numbers in order.
 // The heads stand with the owners of the chains, where a ghost field keeps that each chain ends. So the
-// operations ask for that: a table that kept the heads itself would have to be told which one is meant.
+// operations ask for that: a table that kept the heads itself would have to be told which one is meant. They ask
+// that a number is within the table too, since how many links there are is settled at run time.
 #![tactic(auto)]
 
 ghost use Rattle.std.specs.Prelude.{◌≡◌, ℕ, ◌-◌, ◌<◌, ◌≤◌, Bool, true, false, ◌∷◌, length, drop, replicate, IfOk, Some, None, ◌==◌, nat_le, nat_lt, slice_index_or, slice_set};
@@ -43,7 +44,7 @@ pub struct Link<R> {
     pub next: Option<usize>,
 }
 
-// The table of links that chains run through.
+// The table of links that chains run through. After the start no chain needs heap.
 #[derive(Drop)]
 pub struct Links<R> {
     links: Vec<Link<R>>,

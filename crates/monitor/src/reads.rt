@@ -1,4 +1,4 @@
-// What a host can read off a monitor.
+// What a host can read off a monitor. Each read is that of the tables, promised here of the state with its units.
 
 ghost use Rattle.std.specs.Prelude.{◌≡◌, length};
 ghost use Rattle.tables.specs.Places.{IfRecord, place_in};

@@ -17,7 +17,8 @@ use std::alloc::Global;
 use unit::Unit;
 
 impl<A: Unit, B: Unit, C: Unit, D: Unit> Monitor<A, B, C, D> {
-    // Makes the call that a step is.
+    // Makes the call that a step is: an arm for each, since each has fields of its own. The laws stand on `step`, where they are
+    // one goal and not one for each arm.
     fn make(&mut self, step: Call<&[u8]>) -> Result<u16, Refusal>
         ensures made { Made (call_with (λ t. t.now) step.entry) self.old self.new result }
         ensures lawful { Lawful (call_with (λ t. t.now) step.entry) }

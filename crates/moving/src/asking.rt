@@ -11,16 +11,13 @@ use crate::parts::Asked;
 use crate::text::by_line;
 use buffer::Buffer;
 use calls::{Refusal, Transfer, TransferKind};
-use tasks::Task;
-
-// The most bytes that a transfer moves.
-const LONGEST: u8 = 80;
+use tasks::{MOST_BYTES, Task};
 
 // The size of a transfer of so many bytes, or that no transfer can be of so many.
 fn sized(length: usize) -> Result<u8, Refusal>
     ensures { result ≡ told_size length }
 {
-    if length == 0 || length > LONGEST as usize {
+    if length == 0 || length > MOST_BYTES {
         return Err(Refusal::BadLength);
     }
     Ok(length as u8)
@@ -62,7 +59,7 @@ fn read(kind: TransferKind, size: u8) -> Asked
     }
 }
 
-// What a transfer asks for, or why it is refused.
+// What a transfer asks for, or why it is refused: an arm for each kind, since each has fields of its own.
 pub fn asked(transfer: Transfer<&[u8]>) -> Result<Asked, Refusal>
     ensures { wants result ≡ wanted (transfer_with (λ t. t.now) transfer.entry) }
 {
@@ -70,7 +67,7 @@ pub fn asked(transfer: Transfer<&[u8]>) -> Result<Asked, Refusal>
         Transfer::Write { text } => write(text),
         Transfer::WriteLine { text } => write_line(text),
         Transfer::Read { length } => Ok(read(TransferKind::Read, sized(length)?)),
-        Transfer::ReadLine => Ok(read(TransferKind::ReadLine, LONGEST)),
+        Transfer::ReadLine => Ok(read(TransferKind::ReadLine, MOST_BYTES as u8)),
     }
 }
 

@@ -12,7 +12,7 @@ use crate::text::is_line_end;
 use calls::{Outcome, TransferKind};
 use line::Waiting;
 use queues::UnitRequest;
-use tasks::Task;
+use tasks::{MOST_BYTES, Task};
 use unit::{TransferFault, Unit};
 
 // Whether a transfer moves bytes to the unit.
@@ -36,7 +36,7 @@ fn move_byte<U: Unit>(device: &mut U, task: &Task, moved: u8) -> Result<u8, Tran
     ensures told { result ≡ heard task.now.kind (slice_index task.now.bytes moved) (U.Unit.medium device.old) }
 {
     if is_write(task.kind) {
-        let byte = task.bytes.as_slice()[moved as usize];
+        let byte = task.bytes.as_slice()[usize::from(moved)];
         device.take(byte)?;
         return Ok(byte);
     }
@@ -45,7 +45,7 @@ fn move_byte<U: Unit>(device: &mut U, task: &Task, moved: u8) -> Result<u8, Tran
 
 // A byte of a task's transfer was moved: if it was read, it joins the transfer bytes.
 fn take_in(task: &mut Task, byte: u8)
-    requires { writes task.old.kind ≡ false → length task.old.bytes < 80 }
+    requires { writes task.old.kind ≡ false → length task.old.bytes < MOST_BYTES }
     ensures { as_task task.new ≡ with_bytes (taken_in task.old.kind byte task.old.bytes) (as_task task.old) }
 {
     if !is_write(task.kind) {
@@ -55,7 +55,7 @@ fn take_in(task: &mut Task, byte: u8)
 
 // Whether the byte is the last of a transfer.
 fn is_last(kind: Option<TransferKind>, request: UnitRequest, byte: u8) -> bool
-    requires { request.moved < 80 }
+    requires { request.moved < MOST_BYTES }
     ensures { result ≡ (request.moved + 1 == request.size || (by_line kind && line_end byte)) }
 {
     request.moved + 1 == request.size || (is_by_line(kind) && is_line_end(byte))
@@ -83,7 +83,7 @@ pub fn one_move<U: Unit>(
         }
         Err(fault) => Err(fault.after(request.moved)),
     };
-    let device = U::device_code();
+    let device = U::CODE;
     task.outcome = Some(Outcome { device, end });
     task.outcome
 }

@@ -4,6 +4,7 @@ ghost use Rattle.std.specs.Prelude.{◌≡◌, ◌<◌, ◌≤◌, length, posit
 ghost use Rattle.rules.specs.Transfers.{has_line_end, line, line_end};
 
 use buffer::Buffer;
+use tasks::MOST_BYTES;
 
 // Whether a byte ends a line.
 pub fn is_line_end(byte: u8) -> bool
@@ -21,8 +22,8 @@ fn first_line_end(text: &[u8]) -> Option<usize>
 }
 
 // The bytes of a text up to its first line end, included; none where no byte ends a line.
-pub fn by_line(text: &[u8]) -> Option<Buffer<80>>
-    requires { length text.now ≤ 80 }
+pub fn by_line(text: &[u8]) -> Option<Buffer<MOST_BYTES>>
+    requires { length text.now ≤ MOST_BYTES }
     ensures { result ≡ (if has_line_end text.now then Some (line text.now) else None) }
 {
     let end = first_line_end(text)?;

@@ -3,7 +3,7 @@
 ghost use Rattle.std.specs.Prelude.{◌≡◌, ◌<◌, slice_set};
 ghost use Rattle.needles.specs.Bank.{bank_of, needle_code};
 ghost use Rattle.needles.specs.Rows.{row_bytes};
-ghost use Rattle.std.proofs.Common.{rules, arith};
+ghost use Rattle.std.proofs.Common.{rules};
 
 use crate::NeedleBank;
 use unit::{ROOM, Unit, UnitFault};
@@ -21,17 +21,13 @@ fn with_byte(row: u64, place: usize, byte: u8) -> u64
 impl Unit for NeedleBank {
     const CODE: u8 = 0o40;
 
+    ghost CODE = { needle_code };
+
     ghost medium = { bank_of };
 
-    ghost device = { needle_code };
+    ghost in_range = { Prim.search rules };
 
-    ghost in_range = { first_of (Prim.search rules, Prim.grind (arith, Self.row.coded.inj)) };
-
-    ghost coded = { first_of (Prim.search rules, Prim.grind (arith, Self.row.coded.inj)) };
-
-    fn device_code() -> u8 {
-        Self::CODE
-    }
+    ghost coded = { Prim.search rules };
 
     fn take(&mut self, byte: u8) -> Result<(), UnitFault> {
         if self.count >= ROOM {

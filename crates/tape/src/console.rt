@@ -43,17 +43,13 @@ impl Console {
 impl Unit for Console {
     const CODE: u8 = 0o11;
 
-    ghost medium = { console_of };
+    ghost CODE = { console_code };
 
-    ghost device = { console_code };
+    ghost medium = { console_of };
 
     ghost in_range = { Prim.search rules };
 
     ghost coded = { Prim.search rules };
-
-    fn device_code() -> u8 {
-        Self::CODE
-    }
 
     fn take(&mut self, byte: u8) -> Result<(), UnitFault> {
         keep(&mut self.paper, byte)

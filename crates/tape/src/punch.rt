@@ -40,17 +40,13 @@ impl Punch {
 impl Unit for Punch {
     const CODE: u8 = 0o13;
 
-    ghost medium = { punch_of };
+    ghost CODE = { punch_code };
 
-    ghost device = { punch_code };
+    ghost medium = { punch_of };
 
     ghost in_range = { Prim.search rules };
 
     ghost coded = { Prim.search rules };
-
-    fn device_code() -> u8 {
-        Self::CODE
-    }
 
     fn take(&mut self, byte: u8) -> Result<(), UnitFault> {
         keep(&mut self.tape, byte)

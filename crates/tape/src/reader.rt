@@ -39,17 +39,13 @@ impl Reader {
 impl Unit for Reader {
     const CODE: u8 = 0o12;
 
-    ghost medium = { reader_of };
+    ghost CODE = { reader_code };
 
-    ghost device = { reader_code };
+    ghost medium = { reader_of };
 
     ghost in_range = { Prim.search rules };
 
     ghost coded = { Prim.search rules };
-
-    fn device_code() -> u8 {
-        Self::CODE
-    }
 
     fn take(&mut self, _byte: u8) -> Result<(), UnitFault> {
         Err(UnitFault::Full)

@@ -16,7 +16,7 @@ mod turns;
 
 use chain::Links;
 use std::marker::Model;
-pub use task::Task;
+pub use task::{MOST_BYTES, Task};
 
 #[derive(Drop)]
 pub struct Tasks {

@@ -1,4 +1,5 @@
-// What a call by id does to a task other than the running one.
+// What a call by id does to a task other than the running one. Each method is the rule of its name, and what they share are the
+// steps that they call.
 
 ghost use Rattle.std.specs.Prelude.{◌≡◌, ◌<◌, false, ◌≢◌, length, Some};
 ghost use Rattle.chain.specs.Lists.{has};

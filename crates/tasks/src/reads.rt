@@ -1,4 +1,4 @@
-// What can be read off a task table.
+// What can be read off a task table. Whether a task is on a chain is asked by the chain's name, as the rules do.
 
 ghost use Rattle.std.specs.Prelude.{◌≡◌, ◌<◌, length};
 ghost use Rattle.chain.specs.Lists.{first, has};

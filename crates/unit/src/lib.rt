@@ -21,15 +21,12 @@ pub const ROOM: usize = 4_096;
 // every kind. A kind has no model of its own: the law on codes would then be owed of every
 // medium, also of those that no unit of the kind has.
 pub trait Unit {
-    // The device code of the kind, which an outcome tells. No clause of generic code can name it, so `device_code` stands for it.
+    // The device code of the kind, which an outcome tells.
     const CODE: u8;
 
+    ghost CODE: { ℕ };
+
     ghost medium: { Self → Medium };
-
-    ghost device: { ℕ };
-
-    fn device_code() -> u8
-        ensures { result ≡ device };
 
     // Hands the unit a byte.
     fn take(&mut self, byte: u8) -> Result<(), UnitFault>
@@ -42,10 +39,10 @@ pub trait Unit {
         ensures told { result ≡ told_give (medium self.old) };
 
     // the code is below 100 octal
-    ghost in_range: { device < 64 };
+    ghost in_range: { CODE < 64 };
 
     // every unit of the kind has the kind's code
-    ghost coded: { (u : Self) → (medium u).code ≡ device };
+    ghost coded: { (u : Self) → (medium u).code ≡ CODE };
 }
 
 // What take means, member by member.

@@ -119,10 +119,10 @@ fn console_both_ways(rt: HostRuntime) -> Result<(), Fail> {
 
 #[test]
 fn device_codes(rt: HostRuntime) {
-    assert_eq!(rt; Console::device_code(), 0o11);
-    assert_eq!(rt; Reader::device_code(), 0o12);
-    assert_eq!(rt; Punch::device_code(), 0o13);
-    assert_eq!(rt; NeedleBank::device_code(), 0o40);
+    assert_eq!(rt; Console::CODE, 0o11);
+    assert_eq!(rt; Reader::CODE, 0o12);
+    assert_eq!(rt; Punch::CODE, 0o13);
+    assert_eq!(rt; NeedleBank::CODE, 0o40);
 }
 
 #[test]

@@ -45,7 +45,7 @@ pub fn delay(tables: &mut Tables, ticks: u16) -> Result<u16, Refusal>
     if ticks == 0 {
         return Err(Refusal::NoTicks);
     }
-    let due = reading + ticks as u64;
+    let due = reading + u64::from(ticks);
     tables.waits.join(caller, due);
     tables.tasks.stop();
     tables.tasks.turn();

@@ -8,7 +8,7 @@ mod station;
 
 use draft::{DRAFT, ROWS};
 use generation::Draft;
-use loom::Loom;
+use loom::{Loom, Motion};
 use monitor::{Monitor, Units};
 use needles::NeedleBank;
 use picture::Picture;
@@ -51,8 +51,8 @@ fn main(rt: HostRuntime) -> io::Result<()> {
         return println!(rt; "there is no memory for a cabinet");
     };
     let mut loom = Loom::new(cabinet);
-    for motion in 1..=MOST_MOTIONS {
-        if !loom.make_motion(&rt, motion)? {
+    for number in 1..=MOST_MOTIONS {
+        if !loom.make_motion(&Motion { number, rt: &rt })? {
             break;
         }
     }

@@ -1,4 +1,5 @@
-// A woven row as a picture: a dot for each needle that knits, a blank for each that does not.
+// A woven row as a picture: a dot for each needle that knits, a blank for each that does not. A number prints as its digits, so a
+// picture is a type of its own.
 
 use std::fmt;
 

@@ -18,7 +18,8 @@ pub enum Source {
     Cell(u8),
 }
 
-// What a station does when it runs next.
+// What a station does when it runs next: which call that is, and where it goes on behind the answer, are two questions of it. A
+// place in a row goes on from motion to motion, so it is counted here.
 #[derive(Clone, Copy)]
 enum Stage {
     Fetch,
@@ -36,6 +37,7 @@ enum Stage {
 
 #[derive(Clone, Copy)]
 pub struct Station {
+    pub name: &'static str,
     source: Source,
     // the unit that each row is written to, if there is one
     unit: Option<u8>,
@@ -48,8 +50,15 @@ pub struct Station {
 }
 
 impl Station {
-    pub fn new(source: Source, unit: Option<u8>, target: Option<u8>, end: u8) -> Station {
+    pub fn new(
+        name: &'static str,
+        source: Source,
+        unit: Option<u8>,
+        target: Option<u8>,
+        end: u8,
+    ) -> Station {
         Station {
+            name,
             source,
             unit,
             target,
@@ -108,7 +117,7 @@ impl Station {
                 Source::Unit(_) => self.take_row(text),
                 Source::Cell(_) => self.take_byte(value),
             },
-            Stage::Write { unit: _ } => Stage::Rest,
+            Stage::Write { .. } => Stage::Rest,
             Stage::Rest => self.behind_unit(),
             Stage::Pass { cell, place } => self.behind_byte(cell, place),
             Stage::Finish | Stage::Stop => Stage::Stop,

@@ -17,7 +17,7 @@ use calls::Refusal;
 // What stands in the place of the running record where none runs.
 const NO_RECORD: u8 = 255;
 
-// Whether the bytes begin with a data word.
+// Whether the bytes begin with a data word. A word that is cut short begins with its kind too, so this looks at the first byte alone.
 fn starts_data(bytes: &[u8]) -> bool
     ensures { result ≡ starts_data bytes.now }
 {

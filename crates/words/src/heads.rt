@@ -1,6 +1,8 @@
 // First words: what the first word of a call tells, both ways. In a call here, the length of a text stands for the text.
-// Sub-kinds have no enum of their own: they tell apart the cases of `Call`, `ByIdCall` and `Transfer`, most of which hold a level, a
-// length or a text, and those of `LookedAt`, which stand in their order.
+// Sub-kinds have no enum of their own: they tell apart the cases of `Call`, `ByIdCall` and `Transfer`, so one would be those types
+// again without what five of the cases hold, and those of `LookedAt`, which stand in their order; a `TryFrom` for these would be the
+// same match, with an error that nobody reads. A length is a `usize`, since that of a read is one whatever holds a text; that a word
+// has place for it is asked where the word is made.
 
 ghost use Rattle.std.specs.Prelude.{◌≡◌, ℕ, ◌+◌, ◌*◌, ◌/◌, ◌%◌, ◌<◌, ◌≤◌, Some, None, MatchOption, ◌≢◌};
 ghost use Rattle.calls.specs.declared.call.Call.{Call as Calls};
@@ -8,7 +10,7 @@ ghost use Rattle.words.specs.Format.{by_id_level, by_id_sub, first_word, length_
 ghost use Rattle.words.specs.Heads.{bare, by_id_call, high_of, likely_of, look_call, low_of, middle_of, own_call, sub_of, transfer_call, word_bytes};
 
 use crate::kind::Kind;
-use crate::text::text_length;
+use crate::text::{LONGEST_TEXT, text_length};
 use crate::word::{high, kind, low, middle, number, sub_kind, word, word_with};
 use calls::{ByIdCall, Call, LookedAt, Transfer};
 
@@ -44,7 +46,7 @@ fn look_word(at: LookedAt) -> u32
 }
 
 fn transfer_word(unit: u8, transfer: Transfer<usize>) -> u32
-    requires { transfer_length transfer ≤ 255 }
+    requires { transfer_length transfer ≤ LONGEST_TEXT }
     ensures { word_bytes result ≡ transfer_word unit transfer }
 {
     match transfer {
@@ -57,7 +59,7 @@ fn transfer_word(unit: u8, transfer: Transfer<usize>) -> u32
 
 // The first word of a call.
 pub(crate) fn first_word(call: Call<usize>) -> u32
-    requires { length_in call ≤ 255 }
+    requires { length_in call ≤ LONGEST_TEXT }
     ensures { word_bytes result ≡ first_word call }
 {
     match call {
@@ -113,13 +115,13 @@ fn transfer_call(word: u32) -> Option<Call<usize>>
 {
     let transfer = match sub_kind(word) {
         0 => Transfer::Write {
-            text: low(word) as usize,
+            text: usize::from(low(word)),
         },
         1 => Transfer::WriteLine {
-            text: low(word) as usize,
+            text: usize::from(low(word)),
         },
         2 => Transfer::Read {
-            length: low(word) as usize,
+            length: usize::from(low(word)),
         },
         3 => Transfer::ReadLine,
         _ => return None,
@@ -174,7 +176,7 @@ fn likely_call(word: u32) -> Option<Call<usize>>
 
 // The call that has this first word, with no start and message yet. A word that differs from it in any bit has none.
 pub(crate) fn call_of(word: u32) -> Option<Call<usize>>
-    ensures { MatchOption result ((c : Calls ℕ) → first_word c ≢ word_bytes word) (λ c. (first_word c ≡ word_bytes word) × (length_in c ≤ 255) × (c ≡ bare c)) }
+    ensures { MatchOption result ((c : Calls ℕ) → first_word c ≢ word_bytes word) (λ c. (first_word c ≡ word_bytes word) × (length_in c ≤ LONGEST_TEXT) × (c ≡ bare c)) }
 {
     let call = likely_call(word)?;
     (first_word(call) == word).then_some(call)

@@ -34,7 +34,7 @@ pub(crate) fn word_with(kind: Kind, sub: u8, high: u8, number: u16) -> u32
     word(kind, sub, high, middle, low)
 }
 
-// The kind of a word, if it has one.
+// The kind of a word, if it has one. A `TryFrom` of its number would want an error that nobody reads.
 pub(crate) fn kind(word: u32) -> Option<Kind>
     ensures { result ≡ kind_of word }
 {

@@ -21,8 +21,8 @@ pub(crate) fn put_word(out: &mut [u8], at: usize, word: u32)
     out[at..at + 4].copy_from_slice(&word.to_be_bytes());
 }
 
-// Lays the data words of a text over the bytes from a place on. The text is taken apart by threes, which is the form that it keeps, so
-// the place is counted beside it.
+// Lays the data words of a text over the bytes from a place on. The text is taken apart by threes: the project has
+// fixed that form for a text (docs/DECISIONS.md), so the place is counted beside it.
 pub(crate) fn put_text(out: &mut [u8], at: usize, text: &[u8])
     requires { at + length (text_words text.now) ≤ length out.old }
     ensures { out.new ≡ laid at (text_words text.now) out.old }

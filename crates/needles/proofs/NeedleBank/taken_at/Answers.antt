@@ -1,16 +1,8 @@
 -- A byte taken is a byte of its row.
-use Rattle.std.proofs.Common.{◌≡◌, ◌%◌, length, get_or, take, Some, sym, ap, ◌∙◌, arith, length-take, rules}
-use Rattle.std.proofs.lemmas.List.{drop_all}
-use Rattle.unit.specs.Copying.{first_byte}
-use Rattle.needles.specs.Rows.{bytes_of, row_bytes}
+use Rattle.std.proofs.Common.{◌≡◌, ◌%◌, length, get_or, Some, sym, ap, ◌∙◌, arith, rules}
+use Rattle.needles.specs.Rows.{row_bytes}
 use Rattle.needles.proofs.Filled.{byte_taken}
 use Rattle.needles.proofs.NeedleBank.taken_at.Goals as goal
-
-pub returns-then-at-self : goal.returns-then-at-self
-returns-then-at-self c =
-    let bytes = take c.args.self.now.count (bytes_of c.args.self.now.rows) in
-    let e = drop_all c.args.at bytes (omega (arith, length-take c.args.self.now.count (bytes_of c.args.self.now.rows))) in
-    sym (ap first_byte e)
 
 pub returns : goal.returns
 unfolding row_bytes

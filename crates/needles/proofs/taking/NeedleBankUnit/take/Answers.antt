@@ -2,7 +2,7 @@
 use Rattle.std.proofs.Common.{◌≡◌, ℕ, ◌+◌, ◌-◌, ◌/◌, ◌<◌, List, length, sym, subst, arith, rules}
 use Rattle.std.proofs.lemmas.List.{take_more_set}
 use Rattle.unit.specs.Medium.{full_room}
-use Rattle.unit.proofs.Meaning.{fits_one, told-room}
+use Rattle.unit.proofs.Meaning.{fits_one}
 use Rattle.needles.specs.Rows.{bytes_of}
 use Rattle.needles.proofs.Bytes.{length-bytes}
 use Rattle.needles.proofs.Filled.{BlankFrom, put-blank, put_byte, put_wide}
@@ -20,8 +20,8 @@ invariant_of-self c =
       wide = put_wide rows (n / 8) c.with_byte.result (omega arith) c.with_byte.type_inv c.args.self.now.wide;
     }
 
-pub returns : goal.returns
-returns c =
+pub returns-clause-medium : goal.returns-clause-medium
+returns-clause-medium c =
     let rows : List ℕ = c.args.self.now.rows in
     let n : ℕ = c.args.self.now.count in
     let size : length rows ≡ 512 = search rules in
@@ -31,4 +31,4 @@ returns c =
     let more = take_more_set (bytes_of rows) n c.args.byte inside in
     let one = fits_one (full_room - n) c.args.byte room in
     let left : full_room - (n + 1) ≡ full_room - n - 1 = omega arith in
-    record { medium = cc; told = sym (told-room (full_room - n) room) }
+    cc
