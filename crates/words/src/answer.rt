@@ -1,11 +1,12 @@
 // Answers: what a call is answered in words.
 
-ghost use Rattle.std.specs.Prelude.{◌≡◌, ℕ, ◌+◌, ◌%◌, ◌<◌, ◌≤◌, length, if◌then◌else◌, Some, None, Option as Options, Result as Results, MatchOption};
+ghost use Rattle.std.specs.Prelude.{◌≡◌, ℕ, ◌+◌, ◌%◌, ◌<◌, ◌≤◌, List, length, if◌then◌else◌, Some, None, Option as Options, Result as Results, MatchOption};
 ghost use Rattle.calls.specs.declared.refusal.Refusal.{Refusal as Refusals};
 ghost use Rattle.words.specs.Answers.{answer_with, answer_words, Named, OneAnswer, ReadsAnswer, reply_size, reply_word, starts_data};
 ghost use Rattle.words.specs.Heads.{word_bytes};
 ghost use Rattle.words.specs.Reading.{reading_with};
 ghost use Rattle.words.specs.Writing.{laid, left_by, told_writing};
+ghost use Rattle.words.specs.declared.parts.Answer.{Answer as Answers};
 
 use crate::kind::Kind;
 use crate::parts::Answer;
@@ -95,6 +96,13 @@ fn word_of(running: Option<u8>, reply: Result<u16, Refusal>) -> u32
     }
 }
 
+// How many bytes the words of an answer take that has this text behind it.
+pub fn answer_size(text: &[u8]) -> usize
+    ensures { (a : Answers (List ℕ)) → a.text ≡ text.now → length (answer_words a) ≡ result }
+{
+    4 + text_size(text.len())
+}
+
 // Writes the words of an answer to the front of `out` and tells how many bytes they take.
 #[tactic(auto, using(crate::proofs::AnswerWords::one_answer))]
 pub fn write_answer(answer: Answer<&[u8]>, out: &mut [u8]) -> Result<usize, Refusal>
@@ -102,7 +110,7 @@ pub fn write_answer(answer: Answer<&[u8]>, out: &mut [u8]) -> Result<usize, Refu
     ensures leaves { out.new ≡ left_by result (answer_words (answer_with (λ t. t.now) answer.entry)) out.old }
     ensures back { OneAnswer }
 {
-    let size = 4 + text_size(answer.text.len());
+    let size = answer_size(answer.text);
     if out.len() < size {
         return Err(Refusal::NoRoom);
     }

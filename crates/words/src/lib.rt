@@ -10,7 +10,7 @@ mod text;
 mod word;
 mod write;
 
-pub use answer::{read_answer, write_answer};
+pub use answer::{answer_size, read_answer, write_answer};
 pub use parts::Answer;
 pub use read::read_call;
 pub use text::LONGEST_TEXT;

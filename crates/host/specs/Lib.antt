@@ -1,0 +1,3 @@
+-- What a run over call words promises.
+pub mod Answered
+pub mod Run
