@@ -1,0 +1,2 @@
+-- What a cabinet begins with.
+pub mod Begin
