@@ -39,7 +39,14 @@ mod tests {
         let mut out = vec![in heap; UNTOUCHED; room]?;
         let report = run(cabinet, bytes, &mut out);
         let written = wanted.len();
-        assert_eq!(rt; report, Report { calls, written, stop });
+        assert_eq!(rt;
+            report,
+            Report {
+                calls,
+                written,
+                stop
+            }
+        );
         assert_eq!(rt; out.len(), room);
         assert!(rt; written <= room);
         assert!(rt; &out[..written] == wanted.as_slice());
@@ -69,11 +76,26 @@ mod tests {
         let heap = rt.alloc();
         let mut cabinet = start(heap, 4, 1, vec![in heap; 0x41, 0x0d]?)?;
         let words = [
-            0x1005_0a00, 0x0000_0200, 0x0000_0007, 0x8300_0000, 0x9000_0000, 0x9000_0000, 0xb200_0000, 0x2000_0000,
-            0x2000_0000, 0x2000_0000,
+            0x1005_0a00,
+            0x0000_0200,
+            0x0000_0007,
+            0x8300_0000,
+            0x9000_0000,
+            0x9000_0000,
+            0xb200_0000,
+            0x2000_0000,
+            0x2000_0000,
+            0x2000_0000,
         ];
         let answers = [
-            0xc000_0001, 0xc001_0000, 0xc001_0000, 0xc000_0001, 0xc000_2502, 0x0041_0d00, 0xc001_0000, 0xc0ff_0000,
+            0xc000_0001,
+            0xc001_0000,
+            0xc001_0000,
+            0xc000_0001,
+            0xc000_2502,
+            0x0041_0d00,
+            0xc001_0000,
+            0xc0ff_0000,
             0xd0ff_0001,
         ];
         answered(&rt, &mut cabinet, &words, &answers, 8)
@@ -85,18 +107,44 @@ mod tests {
         let mut cabinet = without_tape(rt.alloc(), 1, 0)?;
         let words = [
             // create: no record is free
-            0x1000_0a00, 0x0000_0000, 0x0000_0000, // kill by id 9 and 0: no live task has it
-            0x3000_0900, 0x3000_0000, // send 7 to cell 1, twice, and 0 to cell 2
-            0x5001_0007, 0x5001_0007, 0x5002_0000, // delays of 0 and 1 ticks, and a tick: there is no clock
-            0x7000_0000, 0x7000_0001, 0xa000_0000, // read 1 from unit 4; read 0 and 81 from unit 0
-            0x8204_0001, 0x8200_0000, 0x8200_0051, // write line without a line end
-            0x8101_0002, 0x0041_4200, // services of unit 4 and of unit 0, which has no request
-            0x9004_0000, 0x9000_0000, // kill, and kill where no task runs
-            0x2000_0000, 0x2000_0000,
+            0x1000_0a00,
+            0x0000_0000,
+            0x0000_0000, // kill by id 9 and 0: no live task has it
+            0x3000_0900,
+            0x3000_0000, // send 7 to cell 1, twice, and 0 to cell 2
+            0x5001_0007,
+            0x5001_0007,
+            0x5002_0000, // delays of 0 and 1 ticks, and a tick: there is no clock
+            0x7000_0000,
+            0x7000_0001,
+            0xa000_0000, // read 1 from unit 4; read 0 and 81 from unit 0
+            0x8204_0001,
+            0x8200_0000,
+            0x8200_0051, // write line without a line end
+            0x8101_0002,
+            0x0041_4200, // services of unit 4 and of unit 0, which has no request
+            0x9004_0000,
+            0x9000_0000, // kill, and kill where no task runs
+            0x2000_0000,
+            0x2000_0000,
         ];
         let answers = [
-            0xd000_0002, 0xd000_0004, 0xd000_0004, 0xc000_0000, 0xd000_0006, 0xd000_0007, 0xd000_000f, 0xd000_000f,
-            0xd000_000f, 0xd000_0009, 0xd000_000a, 0xd000_000a, 0xd000_000b, 0xd000_0009, 0xd000_000c, 0xc0ff_0000,
+            0xd000_0002,
+            0xd000_0004,
+            0xd000_0004,
+            0xc000_0000,
+            0xd000_0006,
+            0xd000_0007,
+            0xd000_000f,
+            0xd000_000f,
+            0xd000_000f,
+            0xd000_0009,
+            0xd000_000a,
+            0xd000_000a,
+            0xd000_000b,
+            0xd000_0009,
+            0xd000_000c,
+            0xc0ff_0000,
             0xd0ff_0001,
         ];
         answered(&rt, &mut cabinet, &words, &answers, 17)
@@ -108,12 +156,29 @@ mod tests {
         let mut cabinet = without_tape(rt.alloc(), 4, 2)?;
         let words = [
             // create id 5 and id 6 at level 10, and id 6 again
-            0x1005_0a00, 0x0000_0000, 0x0000_0000, 0x1006_0a00, 0x0000_0000, 0x0000_0000, 0x1006_0a00, 0x0000_0000,
+            0x1005_0a00,
+            0x0000_0000,
+            0x0000_0000,
+            0x1006_0a00,
+            0x0000_0000,
+            0x0000_0000,
+            0x1006_0a00,
+            0x0000_0000,
             0x0000_0000, // a delay of 0; record 0 waits at cell 3; record 1 writes a byte on unit 1; record 2 kills id 5
-            0x7000_0000, 0x6003_0000, 0x8001_0001, 0x0041_0000, 0x3000_0500,
+            0x7000_0000,
+            0x6003_0000,
+            0x8001_0001,
+            0x0041_0000,
+            0x3000_0500,
         ];
         let answers = [
-            0xc000_0001, 0xc000_0002, 0xd000_0003, 0xd000_0008, 0xc001_0000, 0xc002_0000, 0xd002_0005,
+            0xc000_0001,
+            0xc000_0002,
+            0xd000_0003,
+            0xd000_0008,
+            0xc001_0000,
+            0xc002_0000,
+            0xd002_0005,
         ];
         answered(&rt, &mut cabinet, &words, &answers, 7)
     }
@@ -125,22 +190,48 @@ mod tests {
         let mut cabinet = without_tape(heap, 4, 1)?;
         let table: [&[u32]; 14] = [
             // a data word astray; kinds that are never calls
-            &[0x0000_0000], &[0x4000_0000], &[0xc000_0000], &[0xd000_0000], &[0xe000_0000], &[0xf000_0000],
+            &[0x0000_0000],
+            &[0x4000_0000],
+            &[0xc000_0000],
+            &[0xd000_0000],
+            &[0xe000_0000],
+            &[0xf000_0000],
             // sub-kinds that there are not, of a call that has some and of one that has none
-            &[0x2300_0000], &[0x3500_0100], &[0xa100_0000], // bits that the call does not name
-            &[0x2000_0001], &[0x6001_0001], // data missing; a start address above 16 bits; an unfilled byte that is not zero
-            &[0x1005_0a00, 0x0000_0200], &[0x1005_0a00, 0x0001_0000, 0x0000_0000], &[0x8101_0001, 0x0041_4200],
+            &[0x2300_0000],
+            &[0x3500_0100],
+            &[0xa100_0000], // bits that the call does not name
+            &[0x2000_0001],
+            &[0x6001_0001], // data missing; a start address above 16 bits; an unfilled byte that is not zero
+            &[0x1005_0a00, 0x0000_0200],
+            &[0x1005_0a00, 0x0001_0000, 0x0000_0000],
+            &[0x8101_0001, 0x0041_4200],
         ];
         for words in table {
             let mut bytes = bytes_of(heap, &[0xa000_0000])?;
             bytes.extend_from_slice(&bytes_of(heap, words)?)?;
             bytes.extend_from_slice(&bytes_of(heap, &[0xa000_0000])?)?;
-            runs(&rt, &mut cabinet, &bytes, 256, &[0xc000_0000], 1, Stop::Unlawful { place: 1 })?;
+            runs(
+                &rt,
+                &mut cabinet,
+                &bytes,
+                256,
+                &[0xc000_0000],
+                1,
+                Stop::Unlawful { place: 1 },
+            )?;
         }
         let mut bytes = bytes_of(heap, &[0xa000_0000, 0xa000_0000])?;
         for odd in [0xa0, 0x00, 0x00] {
             bytes.push(odd)?;
-            runs(&rt, &mut cabinet, &bytes, 256, &[0xc000_0000, 0xc000_0000], 2, Stop::Unlawful { place: 2 })?;
+            runs(
+                &rt,
+                &mut cabinet,
+                &bytes,
+                256,
+                &[0xc000_0000, 0xc000_0000],
+                2,
+                Stop::Unlawful { place: 2 },
+            )?;
         }
         // the clock has gone up by each tick that was made, and by no other: 14 times one, and three times two
         assert_eq!(rt; cabinet.clock(), 20);
@@ -154,14 +245,30 @@ mod tests {
         let mut cabinet = without_tape(heap, 4, 1)?;
         let bytes = bytes_of(heap, &[0xa000_0000, 0xa000_0000])?;
         let answer = 0xc000_0000;
-        runs(&rt, &mut cabinet, &bytes, 8, &[answer, answer], 2, Stop::End)?;
+        runs(
+            &rt,
+            &mut cabinet,
+            &bytes,
+            8,
+            &[answer, answer],
+            2,
+            Stop::End,
+        )?;
         runs(&rt, &mut cabinet, &bytes, 7, &[answer], 1, Stop::NoRoom)?;
         runs(&rt, &mut cabinet, &bytes, 4, &[answer], 1, Stop::NoRoom)?;
         runs(&rt, &mut cabinet, &bytes, 0, &[], 0, Stop::NoRoom)?;
         assert_eq!(rt; cabinet.clock(), 4);
         // unlawful words are found before room is looked for
         let unlawful = bytes_of(heap, &[0xa000_0000, 0x4000_0000])?;
-        runs(&rt, &mut cabinet, &unlawful, 4, &[answer], 1, Stop::Unlawful { place: 1 })
+        runs(
+            &rt,
+            &mut cabinet,
+            &unlawful,
+            4,
+            &[answer],
+            1,
+            Stop::Unlawful { place: 1 },
+        )
     }
 
     // The outcome of a read needs room for its text too.
@@ -170,10 +277,26 @@ mod tests {
         let heap = rt.alloc();
         let mut cabinet = start(heap, 1, 0, vec![in heap; 0x41, 0x42]?)?;
         let read = bytes_of(heap, &[0x8200_0002, 0x9000_0000, 0x9000_0000])?;
-        runs(&rt, &mut cabinet, &read, 12, &[0xc0ff_0000, 0xc0ff_0000, 0xc000_0001], 3, Stop::End)?;
+        runs(
+            &rt,
+            &mut cabinet,
+            &read,
+            12,
+            &[0xc0ff_0000, 0xc0ff_0000, 0xc000_0001],
+            3,
+            Stop::End,
+        )?;
         let look = bytes_of(heap, &[0xb200_0000])?;
         runs(&rt, &mut cabinet, &look, 7, &[], 0, Stop::NoRoom)?;
-        runs(&rt, &mut cabinet, &look, 8, &[0xc000_2502, 0x0041_4200], 1, Stop::End)
+        runs(
+            &rt,
+            &mut cabinet,
+            &look,
+            8,
+            &[0xc000_2502, 0x0041_4200],
+            1,
+            Stop::End,
+        )
     }
 
     // A draft takes 1 to 64 tasks and rates 0 to 4; without a clock there is no tick.
