@@ -76,7 +76,7 @@ same_calls (x ∷ xs) (y ∷ ys) rest rest' s room place place' stop stop' a b e
     let here : room - length (answers_from s (x ∷ xs)) ≡ left - length (answers_from s' xs) = omega arith in
     let there : room - length (answers_from s (x ∷ ys)) ≡ left - length (answers_from s' ys) = omega arith in
     let more = same_calls xs ys rest rest' s' left place place' stop stop' (All-tail Writable x xs a) (All-tail Writable y ys b) one.1 (omega arith) (omega arith)
-      (subst (λ (v : ℕ). StopsFor stop place rest (after s' xs) v) here h) (subst (λ (v : ℕ). StopsFor stop' place' rest' (after s' ys) v) there stops) in
+    (subst (λ (v : ℕ). StopsFor stop place rest (after s' xs) v) here h) (subst (λ (v : ℕ). StopsFor stop' place' rest' (after s' ys) v) there stops) in
     let first = one.0 in
     cc
 
@@ -96,8 +96,8 @@ one_run words out left left' before now now' r r' a b =
     let m = a.makes in
     let n = b.makes in
     let calls : m.calls ≡ n.calls =
-        same_calls m.calls n.calls a.rest b.rest before (length out) ((length words - length a.rest) / 4) ((length words - length b.rest) / 4) r.stop r'.stop m.writable n.writable (sym m.front ∙ n.front)
-        (omega (arith, m.takes, m.room)) (omega (arith, n.takes, n.room)) (stop_of a) (stop_of b) in
+    same_calls m.calls n.calls a.rest b.rest before (length out) ((length words - length a.rest) / 4) ((length words - length b.rest) / 4) r.stop r'.stop m.writable n.writable (sym m.front ∙ n.front)
+    (omega (arith, m.takes, m.room)) (omega (arith, n.takes, n.room)) (stop_of a) (stop_of b) in
     let done = words_of n.calls in
     let rest : a.rest ≡ b.rest = sym (drop_at done a.rest (length done) refl) ∙ ap (drop (length done)) (ap (λ (cs : List Step). words_of cs ++ a.rest) (sym calls) ∙ sym m.front ∙ n.front) ∙ drop_at done b.rest (length done) refl in
     let written : r.written ≡ r'.written = m.takes ∙ ap (λ (cs : List Step). length (answers_from before cs)) calls ∙ sym n.takes in
@@ -105,7 +105,8 @@ one_run words out left left' before now now' r r' a b =
     let s = after before n.calls in
     let room = length out - length (answers_from before n.calls) in
     let ends = subst (λ (cs : List Step). StopsFor r.stop ((length words - length a.rest) / 4) a.rest (after before cs) (length out - length (answers_from before cs))) calls (stop_of a) in
-    let stop = same_stop r.stop r'.stop place b.rest s room (subst (λ (v : List ℕ). StopsFor r.stop ((length words - length v) / 4) v s room) rest ends) (stop_of b) in
-    (m.state ∙ ap (after before) calls ∙ sym n.state,
-     m.answers ∙ ap (λ (cs : List Step). answers_from before cs ++ drop r.written out) calls ∙ ap (λ (v : ℕ). answers_from before n.calls ++ drop v out) written ∙ sym n.answers,
-     same_report r.calls r'.calls r.written r'.written r.stop r'.stop (m.number ∙ ap length calls ∙ sym n.number) written stop)
+    let stop = same_stop r.stop r'.stop place b.rest s room (subst (λ (v : List ℕ). StopsFor r.stop ((length words - length v) / 4) v s room) rest ends) (stop_of b) in (
+      m.state ∙ ap (after before) calls ∙ sym n.state,
+      m.answers ∙ ap (λ (cs : List Step). answers_from before cs ++ drop r.written out) calls ∙ ap (λ (v : ℕ). answers_from before n.calls ++ drop v out) written ∙ sym n.answers,
+      same_report r.calls r'.calls r.written r'.written r.stop r'.stop (m.number ∙ ap length calls ∙ sym n.number) written stop,
+    )

@@ -67,7 +67,7 @@ one_more {words = words} {rest = rest} {more = more} {out = out} {left = left} {
     let front : take written left ≡ a = ap (take written) m.answers ∙ take_at a tail written (sym m.takes) in
     let back : drop written left ≡ tail = ap (drop written) m.answers ∙ drop_at a tail written (sym m.takes) in
     let last : answers_from before (m.calls ++ x ∷ []) ≡ a ++ w =
-        answers_from-++ before m.calls (x ∷ []) ∙ ap (λ (z : State). a ++ (answer_words (answer_to x z) ++ [])) (sym m.state) ∙ ap (λ (v : List ℕ). a ++ v) (append-nil w) in
+    answers_from-++ before m.calls (x ∷ []) ∙ ap (λ (z : State). a ++ (answer_words (answer_to x z) ++ [])) (sym m.state) ∙ ap (λ (v : List ℕ). a ++ v) (append-nil w) in
     let sizes : length (a ++ w) ≡ length a + length w = length-append a w in
     let here : place ≡ tail = p ∙ back in
     let long : length place ≡ length out - written = ap length here ∙ length-drop written out in
@@ -83,7 +83,7 @@ one_more {words = words} {rest = rest} {more = more} {out = out} {left = left} {
       takes = rw (last, sizes) (omega (arith, m.takes, o.takes));
       room = omega (arith, fits, more_fits, long);
       answers = rw last (e ∙ ap (λ (v : List ℕ). take written left ++ v) o.answer ∙ ap (λ (v : List ℕ). v ++ (w ++ drop size place)) front
-        ∙ ap (λ (v : List ℕ). a ++ (w ++ drop size v)) here ∙ ap (λ (v : List ℕ). a ++ (w ++ v)) (drop-drop size written out) ∙ sym (append_assoc a w (drop (written + size) out)));
+          ∙ ap (λ (v : List ℕ). a ++ (w ++ drop size v)) here ∙ ap (λ (v : List ℕ). a ++ (w ++ v)) (drop-drop size written out) ∙ sym (append_assoc a w (drop (written + size) out)));
     }
 
 -- a part of a slice from a place to its end, and what a write to it leaves

@@ -3,33 +3,16 @@
 
 #[cfg(test)]
 mod tests {
+    use cabinet::{Cabinet, NotStarted, start};
     use calls::Refusal;
     use generation::Draft;
-    use monitor::{Monitor, Place, Units};
-    use needles::NeedleBank;
+    use monitor::Place;
     use std::alloc::Global;
     use std::test::Fail;
-    use tape::{Console, Punch, Reader};
 
     // A monitor for so many tasks, over units with nothing to give.
-    fn started(
-        heap: Global,
-        tasks: u8,
-        rate: u8,
-    ) -> Result<Monitor<Reader, Punch, NeedleBank, Console>, Fail> {
-        let mut draft = Draft::new();
-        draft.answer_tasks(tasks)?;
-        draft.answer_rate(rate)?;
-        let units = Units {
-            unit_0: Reader::new(Vec::new(heap)),
-            unit_1: Punch::new(),
-            unit_2: NeedleBank::new(),
-            unit_3: Console::new(Vec::new(heap)),
-        };
-        let Ok(monitor) = Monitor::start(heap, draft.seal(), units) else {
-            return Err(Fail::new("there is no memory"));
-        };
-        Ok(monitor)
+    fn started(heap: Global, tasks: u8, rate: u8) -> Result<Cabinet, NotStarted> {
+        start(heap, tasks, rate, Vec::new(heap))
     }
 
     #[test]

@@ -4,11 +4,9 @@
 // station byte by byte through a cell, and each byte is taken before the next is sent.
 
 use crate::station::{Source, Station};
+use cabinet::Cabinet;
 use calls::{Call, Refusal};
-use monitor::Monitor;
-use needles::NeedleBank;
 use std::io;
-use tape::{Console, Punch, Reader};
 
 // A call names its unit by number.
 const READER: u8 = 0;
@@ -38,12 +36,13 @@ enum Control {
 
 #[derive(Drop)]
 pub struct Loom {
-    pub cabinet: Monitor<Reader, Punch, NeedleBank, Console>,
+    pub cabinet: Cabinet,
     control: Control,
     stations: [Station; 3],
 }
 
 // A motion of the frame by its number, and where it is told.
+#[derive(Drop)]
 pub struct Motion<'a, R> {
     pub number: u32,
     pub rt: &'a R,
@@ -51,12 +50,7 @@ pub struct Motion<'a, R> {
 
 impl<R: Print> Motion<'_, R> {
     // One line: the motion, who makes it, the call and its answer.
-    fn tell(
-        &self,
-        name: &str,
-        call: Call<&[u8]>,
-        answer: Result<u16, Refusal>,
-    ) -> io::Result<()> {
+    fn tell(&self, name: &str, call: Call<&[u8]>, answer: Result<u16, Refusal>) -> io::Result<()> {
         let number = self.number;
         match answer {
             Ok(value) => println!(self.rt; "{number:>4}  {name:<8} {call}: {value}"),
@@ -66,9 +60,15 @@ impl<R: Print> Motion<'_, R> {
 }
 
 impl Loom {
-    pub fn new(cabinet: Monitor<Reader, Punch, NeedleBank, Console>) -> Loom {
+    pub fn new(cabinet: Cabinet) -> Loom {
         let stations = [
-            Station::new("reader", Source::Unit(READER), None, Some(TO_NEEDLES), TO_NEEDLES),
+            Station::new(
+                "reader",
+                Source::Unit(READER),
+                None,
+                Some(TO_NEEDLES),
+                TO_NEEDLES,
+            ),
             Station::new(
                 "needles",
                 Source::Cell(TO_NEEDLES),
@@ -116,7 +116,9 @@ impl Loom {
             Control::Stop => Call::Kill,
         };
         self.control = match self.control {
-            Control::Make { station: station @ 1..=2 } => Control::Make {
+            Control::Make {
+                station: station @ 1..=2,
+            } => Control::Make {
                 station: station + 1,
             },
             Control::Make { .. } => Control::Wait,
