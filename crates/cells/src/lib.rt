@@ -34,6 +34,7 @@ impl Ranked for CellWait {
 impl Keyed for CellWait {
     ghost key = { λ w. w.cell };
 
+    // `as` loses nothing, here and in the methods of cells, which the check proves; `from` would be a call that each proof names.
     fn key(&self) -> usize {
         self.cell as usize
     }

@@ -80,6 +80,7 @@ impl<A: Unit, B: Unit, C: Unit, D: Unit> Monitor<A, B, C, D> {
     ) -> Result<Performance<A, B, C, D>, NotStarted<A, B, C, D>>
         ensures { MatchResult result (λ x. Performed (begin (sealed_tasks sealed) (ticks (sealed_rate sealed)) (media A.Unit B.Unit C.Unit D.Unit units)) (steps_of steps.now) x.monitor x.answers.items) (λ e. (e.sealed ≡ sealed) × (e.units ≡ units)) }
     {
+        // As in `start`, a closure would take what the start needs.
         let Ok(mut answers) = Vec::with_capacity(heap, steps.len()) else {
             return Err(NotStarted { sealed, units });
         };
