@@ -1,5 +1,5 @@
-// Trials of runs over call words: the worked example, each refusal by its words, and each stop. The expected answers are worked
-// out by hand from docs/RULES.md and docs/WORDS.md.
+// Trials of runs over call words: the worked example, each refusal by its words but that of the clock at its end, which no run
+// comes to in time, and each stop. The expected answers are worked out by hand from docs/RULES.md and docs/WORDS.md.
 #![tactic(auto)]
 
 #[cfg(test)]
@@ -11,7 +11,7 @@ mod tests {
     use std::process::Abort;
     use std::test::Fail;
 
-    // What a cabinet has in its place for answers before a run.
+    // What stands in the place for answers before a run.
     const UNTOUCHED: u8 = 0xee;
 
     // Some words, one behind the other.
@@ -54,16 +54,20 @@ mod tests {
         Ok(())
     }
 
-    // These words are all lawful, and are answered so.
+    // Each call, by its words, has its answer, in words.
     fn answered(
         rt: &(impl Abort + AllocGlobal),
         cabinet: &mut Cabinet,
-        words: &[u32],
-        answers: &[u32],
-        calls: usize,
+        calls: &[(&[u32], &[u32])],
     ) -> Result<(), Fail> {
-        let bytes = bytes_of(rt.alloc(), words)?;
-        runs(rt, cabinet, &bytes, 256, answers, calls, Stop::End)
+        let heap = rt.alloc();
+        let mut words = Vec::new(heap);
+        let mut answers = Vec::new(heap);
+        for (call, answer) in calls {
+            words.extend_from_slice(&bytes_of(heap, call)?)?;
+            answers.extend_from_slice(answer)?;
+        }
+        runs(rt, cabinet, &words, 256, &answers, calls.len(), Stop::End)
     }
 
     // A cabinet with an empty tape.
@@ -75,112 +79,69 @@ mod tests {
     fn worked_example(rt: HostRuntime) -> Result<(), Fail> {
         let heap = rt.alloc();
         let mut cabinet = start(heap, 4, 1, vec![in heap; 0x41, 0x0d]?)?;
-        let words = [
-            0x1005_0a00,
-            0x0000_0200,
-            0x0000_0007,
-            0x8300_0000,
-            0x9000_0000,
-            0x9000_0000,
-            0xb200_0000,
-            0x2000_0000,
-            0x2000_0000,
-            0x2000_0000,
+        let calls: [(&[u32], &[u32]); 8] = [
+            (&[0x1005_0a00, 0x0000_0200, 0x0000_0007], &[0xc000_0001]),
+            (&[0x8300_0000], &[0xc001_0000]),
+            (&[0x9000_0000], &[0xc001_0000]),
+            (&[0x9000_0000], &[0xc000_0001]),
+            (&[0xb200_0000], &[0xc000_2502, 0x0041_0d00]),
+            (&[0x2000_0000], &[0xc001_0000]),
+            (&[0x2000_0000], &[0xc0ff_0000]),
+            (&[0x2000_0000], &[0xd0ff_0001]),
         ];
-        let answers = [
-            0xc000_0001,
-            0xc001_0000,
-            0xc001_0000,
-            0xc000_0001,
-            0xc000_2502,
-            0x0041_0d00,
-            0xc001_0000,
-            0xc0ff_0000,
-            0xd0ff_0001,
-        ];
-        answered(&rt, &mut cabinet, &words, &answers, 8)
+        answered(&rt, &mut cabinet, &calls)
     }
 
-    // The refusals that one task meets.
+    // The refusals that one task meets, where there is no clock.
     #[test]
     fn refused_to_one(rt: HostRuntime) -> Result<(), Fail> {
         let mut cabinet = without_tape(rt.alloc(), 1, 0)?;
-        let words = [
-            // create: no record is free
-            0x1000_0a00,
-            0x0000_0000,
-            0x0000_0000, // kill by id 9 and 0: no live task has it
-            0x3000_0900,
-            0x3000_0000, // send 7 to cell 1, twice, and 0 to cell 2
-            0x5001_0007,
-            0x5001_0007,
-            0x5002_0000, // delays of 0 and 1 ticks, and a tick: there is no clock
-            0x7000_0000,
-            0x7000_0001,
-            0xa000_0000, // read 1 from unit 4; read 0 and 81 from unit 0
-            0x8204_0001,
-            0x8200_0000,
-            0x8200_0051, // write line without a line end
-            0x8101_0002,
-            0x0041_4200, // services of unit 4 and of unit 0, which has no request
-            0x9004_0000,
-            0x9000_0000, // kill, and kill where no task runs
-            0x2000_0000,
-            0x2000_0000,
+        let calls: [(&[u32], &[u32]); 17] = [
+            // a create, for which no record is free
+            (&[0x1000_0a00, 0x0000_0000, 0x0000_0000], &[0xd000_0002]),
+            // kills by id 9 and by id 0
+            (&[0x3000_0900], &[0xd000_0004]),
+            (&[0x3000_0000], &[0xd000_0004]),
+            // 7 is sent to cell 1, twice, and 0 to cell 2
+            (&[0x5001_0007], &[0xc000_0000]),
+            (&[0x5001_0007], &[0xd000_0006]),
+            (&[0x5002_0000], &[0xd000_0007]),
+            // delays of 0 ticks and of one, and a tick
+            (&[0x7000_0000], &[0xd000_000f]),
+            (&[0x7000_0001], &[0xd000_000f]),
+            (&[0xa000_0000], &[0xd000_000f]),
+            // reads of a byte from unit 4, and of 0 and 81 bytes from unit 0
+            (&[0x8204_0001], &[0xd000_0009]),
+            (&[0x8200_0000], &[0xd000_000a]),
+            (&[0x8200_0051], &[0xd000_000a]),
+            // a write line of a text that has no line end
+            (&[0x8101_0002, 0x0041_4200], &[0xd000_000b]),
+            // services of unit 4, and of unit 0, which has no request
+            (&[0x9004_0000], &[0xd000_0009]),
+            (&[0x9000_0000], &[0xd000_000c]),
+            // a kill, and one where no task runs
+            (&[0x2000_0000], &[0xc0ff_0000]),
+            (&[0x2000_0000], &[0xd0ff_0001]),
         ];
-        let answers = [
-            0xd000_0002,
-            0xd000_0004,
-            0xd000_0004,
-            0xc000_0000,
-            0xd000_0006,
-            0xd000_0007,
-            0xd000_000f,
-            0xd000_000f,
-            0xd000_000f,
-            0xd000_0009,
-            0xd000_000a,
-            0xd000_000a,
-            0xd000_000b,
-            0xd000_0009,
-            0xd000_000c,
-            0xc0ff_0000,
-            0xd0ff_0001,
-        ];
-        answered(&rt, &mut cabinet, &words, &answers, 17)
+        answered(&rt, &mut cabinet, &calls)
     }
 
-    // A task that waits at a unit is not killed; an id is not given twice; with a clock, a delay of 0 is refused with 8.
+    // The refusals that want several tasks, and a delay of 0 where there is a clock.
     #[test]
     fn refused_to_several(rt: HostRuntime) -> Result<(), Fail> {
         let mut cabinet = without_tape(rt.alloc(), 4, 2)?;
-        let words = [
-            // create id 5 and id 6 at level 10, and id 6 again
-            0x1005_0a00,
-            0x0000_0000,
-            0x0000_0000,
-            0x1006_0a00,
-            0x0000_0000,
-            0x0000_0000,
-            0x1006_0a00,
-            0x0000_0000,
-            0x0000_0000, // a delay of 0; record 0 waits at cell 3; record 1 writes a byte on unit 1; record 2 kills id 5
-            0x7000_0000,
-            0x6003_0000,
-            0x8001_0001,
-            0x0041_0000,
-            0x3000_0500,
+        let calls: [(&[u32], &[u32]); 7] = [
+            // creates of id 5, of id 6, and of id 6 again
+            (&[0x1005_0a00, 0x0000_0000, 0x0000_0000], &[0xc000_0001]),
+            (&[0x1006_0a00, 0x0000_0000, 0x0000_0000], &[0xc000_0002]),
+            (&[0x1006_0a00, 0x0000_0000, 0x0000_0000], &[0xd000_0003]),
+            (&[0x7000_0000], &[0xd000_0008]),
+            // record 0 waits at cell 3, record 1 writes a byte on unit 1, and record 2 kills id 5, which is record 1's
+            (&[0x6003_0000], &[0xc001_0000]),
+            (&[0x8001_0001, 0x0041_0000], &[0xc002_0000]),
+            (&[0x3000_0500], &[0xd002_0005]),
         ];
-        let answers = [
-            0xc000_0001,
-            0xc000_0002,
-            0xd000_0003,
-            0xd000_0008,
-            0xc001_0000,
-            0xc002_0000,
-            0xd002_0005,
-        ];
-        answered(&rt, &mut cabinet, &words, &answers, 7)
+        answered(&rt, &mut cabinet, &calls)
     }
 
     // What begins no call, behind a tick that is answered; odd bytes at the end; and what comes behind it is not made.
@@ -189,19 +150,21 @@ mod tests {
         let heap = rt.alloc();
         let mut cabinet = without_tape(heap, 4, 1)?;
         let table: [&[u32]; 14] = [
-            // a data word astray; kinds that are never calls
+            // a data word astray, and kinds that are never calls
             &[0x0000_0000],
             &[0x4000_0000],
             &[0xc000_0000],
             &[0xd000_0000],
             &[0xe000_0000],
             &[0xf000_0000],
-            // sub-kinds that there are not, of a call that has some and of one that has none
+            // sub-kinds that there are not: of own calls, of calls by id, and of a tick, which has none
             &[0x2300_0000],
             &[0x3500_0100],
-            &[0xa100_0000], // bits that the call does not name
+            &[0xa100_0000],
+            // bits that a kill and a wait do not name
             &[0x2000_0001],
-            &[0x6001_0001], // data missing; a start address above 16 bits; an unfilled byte that is not zero
+            &[0x6001_0001],
+            // a data word that is missing; a start address above 16 bits; an unfilled byte that is not zero
             &[0x1005_0a00, 0x0000_0200],
             &[0x1005_0a00, 0x0001_0000, 0x0000_0000],
             &[0x8101_0001, 0x0041_4200],
@@ -318,7 +281,7 @@ mod tests {
             (4, 0xc000_0000),
         ] {
             let mut cabinet = without_tape(heap, 1, rate)?;
-            answered(&rt, &mut cabinet, &[0xa000_0000], &[answer], 1)?;
+            answered(&rt, &mut cabinet, &[(&[0xa000_0000], &[answer])])?;
         }
         Ok(())
     }
