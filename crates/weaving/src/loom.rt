@@ -133,11 +133,11 @@ impl Loom {
         let Some(station) = self.stations.get_mut(place) else {
             return Ok(());
         };
-        let before = *station;
-        let call = before.call();
+        let call = station.call();
         let answer = self.cabinet.step(call);
+        motion.tell(station.name, call, answer)?;
         station.go_on(answer, self.cabinet.outcome_text());
-        motion.tell(before.name, call, answer)
+        Ok(())
     }
 
     // No task runs: each unit moves a byte of its first request, if it has one, and the clock ticks.
