@@ -1,6 +1,7 @@
 -- The links of a table, by place.
-use Rattle.std.proofs.Common.{◌≡◌, ℕ, zero, suc, ◌<◌, Bool, not, nat_lt, nat_le, ◌∷◌, map, length, get_or, replicate, vec_items, sym, refl, ap, ◌∙◌, arith}
+use Rattle.std.proofs.Common.{◌≡◌, ℕ, zero, suc, ◌-◌, ◌<◌, Bool, not, nat_lt, nat_le, List, [], ◌∷◌, ◌++◌, map, length, get_or, replicate, take, vec_items, sym, refl, ap, ◌∙◌, arith}
 use lib.ListN.{length-map}
+use Rattle.std.proofs.Math.Seq.{take-nil}
 use Rattle.std.proofs.lemmas.List.{get_or-map}
 use Rattle.std.proofs.lemmas.Bool.Decides.{nat_tests}
 use Rattle.chain.specs.declared.Links.{Links}
@@ -17,6 +18,13 @@ module _ {R : Type 0} (t : Links R) where
 pub map-replicate : {X Y : Type 0} (f : X → Y) (n : ℕ) (x : X) → map f (replicate n x) ≡ replicate n (f x)
 map-replicate f zero x = refl
 map-replicate f (suc n) x = ap (λ l. f x ∷ l) (map-replicate f n x)
+
+-- a table that was empty and has grown to n copies of one link: each link has what that has
+pub all_alike : {X Y : Type 0} (f : X → Y) (n len : ℕ) (x : X) (old all : List X) → old ≡ [] → len ≡ 0 → all ≡ take n old ++ replicate (n - len) x → map f all ≡ replicate n (f x)
+all_alike {X = X} f n len x old all e l is =
+    let front : take n old ≡ [] = ap (take n) e ∙ take-nil n in
+    let rest : n - len ≡ n = omega arith in
+    ap (map f) is ∙ ap (λ (xs : List X). map f (xs ++ replicate (n - len) x)) front ∙ ap (λ (m : ℕ). map f (replicate m x)) rest ∙ map-replicate f n x
 
 -- no record goes behind one that ranks below it, and behind any other it does
 pub not_behind : (a b : ℕ) (r : Bool) → r ≡ nat_le b a → not r ≡ nat_lt a b
