@@ -13,7 +13,7 @@ use calls::{ByIdCall, Refusal};
 use own::{kill, or_else, set_level, suspend};
 use tables::Tables;
 
-// Each call below finds its task by itself and refuses from a `let .. else`: the project has fixed that form for these calls
+// Each call below looks its task up and refuses in a `let .. else`: the project has fixed that form for these calls
 // (docs/DECISIONS.md).
 
 // A call on the task with the id: the one entry for all five, whose names are the calls'.

@@ -34,7 +34,8 @@ impl Ranked for CellWait {
 impl Keyed for CellWait {
     ghost key = { λ w. w.cell };
 
-    // `as` loses nothing, here and in the methods of cells, which the check proves; `from` would be a call that each proof names.
+    // `as` to a wider type loses nothing, here and in the methods of cells; with `from`, each proof about a place would have to name
+    // the call.
     fn key(&self) -> usize {
         self.cell as usize
     }

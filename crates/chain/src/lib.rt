@@ -37,14 +37,14 @@ pub trait Ranked {
     ghost ranks: { (x : Self) (y : Self) → above x y ≡ nat_le (rank x) (rank y) };
 }
 
-// A record and the number of the next one.
+// A record and the number of the next one: the project has fixed this form (docs/DECISIONS.md).
 #[derive(Clone, Copy, Drop)]
 pub struct Link<R> {
     pub record: R,
     pub next: Option<usize>,
 }
 
-// The table of links that chains run through. After the start no chain needs heap.
+// The table of links that chains run through. Once it is made, no operation on a chain needs heap.
 #[derive(Drop)]
 pub struct Links<R> {
     links: Vec<Link<R>>,

@@ -17,7 +17,7 @@ pub struct ClockWait {
     pub due: u64,
 }
 
-// Each kind shows the laws of its own order, so those that rank by a number have an impl each.
+// Each kind owes the laws of its order itself (docs/DECISIONS.md), so those that rank by a number have an impl each.
 impl Ranked for ClockWait {
     ghost rank = { λ w. w.due };
 

@@ -21,7 +21,8 @@ pub struct Report {
     pub stop: Stop,
 }
 
-// The bytes that stand behind the answer to a call: behind the outcome of a read those that it has moved.
+// The bytes that stand behind the answer to a call: after a look at the outcome of a read, those that it has moved. A look changes
+// nothing, so they are the same before and after the call.
 fn text_behind<'m, A: Unit, B: Unit, C: Unit, D: Unit>(
     monitor: &'m Monitor<A, B, C, D>,
     call: Call<&[u8]>,
@@ -37,7 +38,7 @@ fn text_behind<'m, A: Unit, B: Unit, C: Unit, D: Unit>(
 }
 
 // Makes the first call of some words and writes its answer to the front of `out`: the words that are left, and how many bytes
-// the answer takes. `place` words stand before these, which is told where they begin with no call.
+// the answer takes. So many words as `place` stand before these; a stop where they begin no lawful call tells it.
 fn make_first<'b, A: Unit, B: Unit, C: Unit, D: Unit>(
     monitor: &mut Monitor<A, B, C, D>,
     words: &'b [u8],
@@ -59,11 +60,12 @@ fn make_first<'b, A: Unit, B: Unit, C: Unit, D: Unit>(
         reply,
         text: text_behind(monitor, call),
     };
+    // It fits: its size was compared with the room before the call.
     let _ = write_answer(answer, out);
     Ok((rest, size))
 }
 
-// Makes the calls that some words are, one after the other, and writes their answers to `answers`, up to the end, to the first
+// Makes the calls in some words, one after the other, and writes their answers to `answers`, up to the end, to the first
 // place where no lawful call begins, or to the first answer that has no room, whose call is not made.
 pub fn run<A: Unit, B: Unit, C: Unit, D: Unit>(
     monitor: &mut Monitor<A, B, C, D>,
@@ -71,6 +73,7 @@ pub fn run<A: Unit, B: Unit, C: Unit, D: Unit>(
     answers: &mut [u8],
 ) -> Report
     ensures ran { Ran words.now monitor.old monitor.new answers.old answers.new result }
+    ensures fits { result.written ≤ length answers.new }
     ensures only { OneRun }
 {
     let mut rest = words;

@@ -1,8 +1,8 @@
-// A line of waiting tasks: one chain of ranked records in a table of its own, where the record `t` is that of task `t`, so that no
-// wait needs heap after the start.
+// A line of waiting tasks: one chain of ranked records, where the record `t` is that of task `t`. Each line has a table of its own,
+// since the waits of each are of another type or in another queue.
 // It means the list of the tasks on it with their records, in order. Beside that it has room for so many tasks, which is settled
-// at run time; a model would be a record of both, and every clause would name its part as it does now. Who joins is to be within the
-// room and not on the line: two facts that a caller has from two places, its task table and the one place of each record.
+// at run time; a model would be a record of both, and every clause would name its part as it does now. Whoever
+// joins is to be within the room, which a caller's task table tells, and not on the line, which each record's one place tells.
 #![tactic(auto)]
 
 ghost use Rattle.std.specs.Prelude.{◌≡◌, ℕ};

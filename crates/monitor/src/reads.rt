@@ -1,4 +1,5 @@
-// What a host can read off a monitor. Each read is that of the tables, promised here of the state with its units.
+// What a host can read off a monitor. Each read is that of the tables, whose promise is for any units; here it is of the state with
+// its own.
 
 ghost use Rattle.std.specs.Prelude.{◌≡◌, length};
 ghost use Rattle.tables.specs.Places.{IfRecord, place_in};

@@ -21,7 +21,7 @@ impl<A: Unit, B: Unit, C: Unit, D: Unit> Monitor<A, B, C, D> {
     ) -> Result<Monitor<A, B, C, D>, NotStarted<A, B, C, D>>
         ensures { MatchResult result (λ m. m ≡ begin (sealed_tasks sealed) (ticks (sealed_rate sealed)) (media A.Unit B.Unit C.Unit D.Unit units)) (λ e. (e.sealed ≡ sealed) × (e.units ≡ units)) }
     {
-        // A closure for `map_err` would take the units from the start that succeeds.
+        // A closure for `map_err` would move `sealed` and the units, which a start that succeeds still needs.
         let Ok(tables) = Tables::of(heap, usize::from(sealed.tasks()), sealed.rate().ticks()) else {
             return Err(NotStarted { sealed, units });
         };

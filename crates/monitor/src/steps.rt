@@ -17,8 +17,8 @@ use std::alloc::Global;
 use unit::Unit;
 
 impl<A: Unit, B: Unit, C: Unit, D: Unit> Monitor<A, B, C, D> {
-    // Makes the call that a step is: an arm for each, since each has fields of its own. The laws stand on `step`, where they are
-    // one goal and not one for each arm.
+    // Makes the call that a step is: an arm for each, since each is another method with other arguments. The laws stand on `step`,
+    // where they are one goal and not one for each arm.
     fn make(&mut self, step: Call<&[u8]>) -> Result<u16, Refusal>
         ensures made { Made (call_with (λ t. t.now) step.entry) self.old self.new result }
         ensures lawful { Lawful (call_with (λ t. t.now) step.entry) }
@@ -80,7 +80,7 @@ impl<A: Unit, B: Unit, C: Unit, D: Unit> Monitor<A, B, C, D> {
     ) -> Result<Performance<A, B, C, D>, NotStarted<A, B, C, D>>
         ensures { MatchResult result (λ x. Performed (begin (sealed_tasks sealed) (ticks (sealed_rate sealed)) (media A.Unit B.Unit C.Unit D.Unit units)) (steps_of steps.now) x.monitor x.answers.items) (λ e. (e.sealed ≡ sealed) × (e.units ≡ units)) }
     {
-        // As in `start`, a closure would take what the start needs.
+        // As in `start`: a closure would move what the start below needs.
         let Ok(mut answers) = Vec::with_capacity(heap, steps.len()) else {
             return Err(NotStarted { sealed, units });
         };

@@ -59,7 +59,7 @@ fn read(kind: TransferKind, size: u8) -> Asked
     }
 }
 
-// What a transfer asks for, or why it is refused: an arm for each kind, since each has fields of its own.
+// What a transfer asks for, or why it is refused: an arm for each kind, since each is checked in another way.
 pub fn asked(transfer: Transfer<&[u8]>) -> Result<Asked, Refusal>
     ensures { wants result ≡ wanted (transfer_with (λ t. t.now) transfer.entry) }
 {

@@ -1,5 +1,5 @@
-// Trials of runs over call words: the worked example, each refusal by its words but that of the clock at its end, which no run
-// comes to in time, and each stop. The expected answers are worked out by hand from docs/RULES.md and docs/WORDS.md.
+// Trials of runs over call words: the worked example, each refusal by its words, except that of the clock at its end, which no run
+// can reach in time, and each stop. The expected answers are worked out by hand from docs/RULES.md and docs/WORDS.md.
 #![tactic(auto)]
 
 #[cfg(test)]
@@ -144,7 +144,7 @@ mod tests {
         answered(&rt, &mut cabinet, &calls)
     }
 
-    // What begins no call, behind a tick that is answered; odd bytes at the end; and what comes behind it is not made.
+    // Words that begin no call stop the run behind an answered tick, and the tick behind them is not made; so do odd bytes at the end.
     #[test]
     fn unlawful(rt: HostRuntime) -> Result<(), Fail> {
         let heap = rt.alloc();

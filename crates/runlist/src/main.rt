@@ -33,7 +33,7 @@ fn main(rt: HostRuntime) -> Result<()> {
     let mut answers = vec![in heap; 0; ROOM]?;
     let report = run(&mut cabinet, &calls, &mut answers);
     let mut out = BufWriter::new(heap, io::writer(&rt))?;
-    print_words(&mut out, answers.get(..report.written).unwrap_or(&[]))?;
+    print_words(&mut out, &answers[..report.written])?;
     out.write_all(end_line(heap, report.calls, report.stop)?.as_bytes())?;
     out.flush()?;
     Ok(())

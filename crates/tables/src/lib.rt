@@ -1,6 +1,6 @@
 // The tables of the monitor: the task table, the waits at the clock, at the cells and at the units, and the clock. They mean
-// a state of the rules, whatever the units are: the units stand beside them, so they are no model, and a promise here is for any
-// units. Each call of the monitor is a function over them and no method, so that it
+// a state of the rules, whatever the units are. The units stand beside the tables, so the tables alone are no model of a state: each
+// promise here is for any units. Each call of the monitor is a function over them and no method, so that it
 // can stand in a crate of its own.
 #![tactic(auto)]
 

@@ -66,7 +66,7 @@ impl Tasks {
         if id == 0 {
             return None;
         }
-        // As `find` over the numbers this takes a proof of its own, and as a `for` none.
+        // As `find` over the numbers it takes thirty lines of proof, and this `for` none.
         for k in 0..self.count() {
             if self.is_named(k, id) {
                 return Some(k);

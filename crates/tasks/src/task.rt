@@ -25,7 +25,7 @@ pub struct Task {
     pub outcome: Option<Outcome>,
 }
 
-// Each kind shows the laws of its own order, so those that rank by a number have an impl each.
+// Each kind owes the laws of its order itself (docs/DECISIONS.md), so those that rank by a number have an impl each.
 impl Ranked for Task {
     ghost rank = { λ t. t.level };
 

@@ -24,6 +24,7 @@ pub trait Unit {
     // The device code of the kind, which an outcome tells.
     const CODE: u8;
 
+    // the same code, as clauses name it
     ghost CODE: { ℕ };
 
     ghost medium: { Self → Medium };

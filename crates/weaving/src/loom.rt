@@ -15,6 +15,7 @@ const PUNCH: u8 = 1;
 
 const NEEDLES: u8 = 2;
 
+// The cells through which rows pass from one station to the next, and that at which the end is told.
 const TO_NEEDLES: u8 = 1;
 
 const TO_PUNCH: u8 = 2;
@@ -27,7 +28,7 @@ const LEVEL: u8 = 10;
 // What record 0 does when it runs next.
 #[derive(Clone, Copy)]
 enum Control {
-    // It makes a station, counted from 1, which is its task's id and start address.
+    // It makes the station of this number, from 1, which is the id and the start address of its task.
     Make { station: u8 },
     // It waits until the stations are done.
     Wait,

@@ -18,8 +18,8 @@ pub enum Source {
     Cell(u8),
 }
 
-// What a station does when it runs next: which call that is, and where it goes on behind the answer, are two questions of it. A
-// place in a row goes on from motion to motion, so it is counted here.
+// What a station does when it runs next: `call` tells which call that is, and `go_on` what comes after its answer. A place in a row
+// outlives a motion, so no loop can count it.
 #[derive(Clone, Copy)]
 enum Stage {
     Fetch,

@@ -18,7 +18,7 @@ use calls::Refusal;
 // What stands in the place of the running record where none runs.
 const NO_RECORD: u8 = 255;
 
-// Whether the bytes begin with a data word. A word that is cut short begins with its kind too, so this looks at the first byte alone.
+// Whether the bytes begin with a data word. Only the first byte is looked at, so one that is cut short counts too.
 fn starts_data(bytes: &[u8]) -> bool
     ensures { result ≡ starts_data bytes.now }
 {
@@ -96,7 +96,7 @@ fn word_of(running: Option<u8>, reply: Result<u16, Refusal>) -> u32
     }
 }
 
-// How many bytes the words of an answer take that has this text behind it.
+// How many bytes the words of an answer take with this text behind it.
 pub fn answer_size(text: &[u8]) -> usize
     ensures { (a : Answers (List ℕ)) → a.text ≡ text.now → length (answer_words a) ≡ result }
 {

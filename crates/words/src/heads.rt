@@ -1,8 +1,7 @@
 // First words: what the first word of a call tells, both ways. In a call here, the length of a text stands for the text.
-// Sub-kinds have no enum of their own: they tell apart the cases of `Call`, `ByIdCall` and `Transfer`, so one would be those types
-// again without what five of the cases hold, and those of `LookedAt`, which stand in their order; a `TryFrom` for these would be the
-// same match, with an error that nobody reads. A length is a `usize`, since that of a read is one whatever holds a text; that a word
-// has place for it is asked where the word is made.
+// An enum of sub-kinds would repeat `Call`, `ByIdCall` and `Transfer` without what five of their cases hold; a `TryFrom` for `LookedAt`
+// would be the same match, with an error that nobody reads. A call may ask to read more bytes than a word has place for, so a length is
+// a `usize`, and that it fits is asked where the word is made.
 
 ghost use Rattle.std.specs.Prelude.{◌≡◌, ℕ, ◌+◌, ◌*◌, ◌/◌, ◌%◌, ◌<◌, ◌≤◌, Some, None, MatchOption, ◌≢◌};
 ghost use Rattle.calls.specs.declared.call.Call.{Call as Calls};
