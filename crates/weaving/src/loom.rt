@@ -96,10 +96,10 @@ impl Loom {
             .cabinet
             .task(usize::from(record))
             .map_or(0, |task| task.start);
-        if start == 0 {
-            self.control(motion)?;
-        } else {
-            self.work(motion, usize::from(start - 1))?;
+        // A start address is the number of a station, from 1; record 0 has none.
+        match usize::from(start).checked_sub(1) {
+            None => self.control(motion)?,
+            Some(place) => self.work(motion, place)?,
         }
         Ok(true)
     }
@@ -116,6 +116,7 @@ impl Loom {
             Control::Wait => Call::Wait { cell: AT_END },
             Control::Stop => Call::Kill,
         };
+        // Behind the last of the three it waits.
         self.control = match self.control {
             Control::Make {
                 station: station @ 1..=2,

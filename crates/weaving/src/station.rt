@@ -11,7 +11,8 @@ const END: u16 = 1;
 // How many bytes a row has.
 const WIDTH: usize = 8;
 
-// Where a station has its rows from.
+// Where a station has its rows from. From a unit a whole row comes with one call, and from a cell a byte, so each stage asks which
+// it is.
 #[derive(Clone, Copy)]
 pub enum Source {
     Unit(u8),
@@ -107,6 +108,7 @@ impl Station {
 
     // Goes on behind a call that was answered so; `text` is what its latest read has moved.
     pub fn go_on(&mut self, answer: Result<u16, Refusal>, text: &[u8]) {
+        // A refusal stops the station, and is no error for the one who moves it.
         let Ok(value) = answer else {
             self.stage = Stage::Stop;
             return;
