@@ -83,7 +83,7 @@ impl<R: Copy> Links<R> {
         ensures nexts { IfOk result (λ t. nexts t ≡ replicate n None) }
     {
         // `vec!` clones, and it is not said that a clone of an `R` is the same.
-        let mut links = Vec::new(heap);
+        let mut links = Vec::with_capacity(heap, n)?;
         links.resize(
             n,
             Link {
