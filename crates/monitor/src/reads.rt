@@ -1,7 +1,8 @@
 // What a host can read off a monitor. Each read is that of the tables, whose promise is for any units; here it is of the state with
 // its own.
 
-ghost use Rattle.std.specs.Prelude.{◌≡◌, length};
+ghost use Rattle.std.specs.Prelude.{◌≡◌, ◌≤◌, length};
+ghost use Rattle.tables.specs.Parts.{Standing};
 ghost use Rattle.tables.specs.Places.{IfRecord, place_in};
 ghost use Rattle.monitor.specs.View.{media};
 ghost use Rattle.rules.specs.Rules.{outcome_text};
@@ -15,9 +16,12 @@ use tasks::Task;
 use unit::Unit;
 
 impl<A: Unit, B: Unit, C: Unit, D: Unit> Monitor<A, B, C, D> {
-    // The number of task records.
+    // The number of task records, of which there are at most 64. What holds of every state that a run comes to holds of every monitor:
+    // every record is at exactly one place, marks are as they may be, chains are sorted, and no ready task ranks above the running one.
     pub fn tasks(&self) -> usize
-        ensures { result ≡ length self.now.table.tasks }
+        ensures told { result ≡ length self.now.table.tasks }
+        ensures few { length self.now.table.tasks ≤ 64 }
+        ensures stands { ∥ Standing self.now ∥₁ }
     {
         self.tables.count()
     }

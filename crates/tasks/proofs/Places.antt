@@ -11,7 +11,7 @@ use Rattle.rules.proofs.Counts.{size-change, tasks-release}
 
 -- ── lists ──
 
-count-first : (k : ℕ) (xs : List ℕ) → count k (option_to_list (first xs)) + count k (rest xs) ≡ count k xs
+pub count-first : (k : ℕ) (xs : List ℕ) → count k (option_to_list (first xs)) + count k (rest xs) ≡ count k xs
 count-first k [] = refl
 count-first k (x ∷ xs) = omega arith
 

@@ -3,14 +3,15 @@
 ghost use Rattle.std.specs.Prelude.{◌≡◌, ◌<◌, length};
 ghost use Rattle.chain.specs.Lists.{first, has};
 ghost use Rattle.rules.specs.State.{record_in};
-ghost use Rattle.tasks.specs.Parts.{as_task};
+ghost use Rattle.tasks.specs.Parts.{Placed, as_task};
 
 use crate::{Task, Tasks};
 
 impl Tasks {
-    // The number of records.
+    // The number of records. Of each table every record stands at one place of it at most, and nothing else stands there.
     pub fn count(&self) -> usize
-        ensures { result ≡ length self.now.tasks }
+        ensures told { result ≡ length self.now.tasks }
+        ensures placed { Placed self.now }
     {
         self.links.len()
     }
