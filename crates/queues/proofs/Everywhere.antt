@@ -15,7 +15,7 @@ use Rattle.queues.specs.Four.{queues}
 use Rattle.queues.specs.Number.{number_of}
 use Rattle.queues.specs.View.{requests, room}
 
-has-++ : (t : ℕ) (xs ys : List ℕ) → has t (xs ++ ys) ≡ (has t xs || has t ys)
+pub has-++ : (t : ℕ) (xs ys : List ℕ) → has t (xs ++ ys) ≡ (has t xs || has t ys)
 has-++ t [] ys = refl
 has-++ t (x ∷ xs) ys = let r = has-++ t xs ys in grind (arith, nat_tests)
 

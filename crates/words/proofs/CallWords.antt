@@ -185,7 +185,7 @@ one_call c rest (Ok (Some (d, more))) r =
     cc
 
 -- how many bytes a call takes, by its first word
-words_size_lem : (c : Call (List ℕ)) → words_size (call_with length c) ≡ length (call_words c)
+pub words_size_lem : (c : Call (List ℕ)) → words_size (call_with length c) ≡ length (call_words c)
 words_size_lem (Transfer unit (moves.Write text)) = let n = length-text text in omega arith
 words_size_lem (Transfer unit (moves.WriteLine text)) = let n = length-text text in omega arith
 words_size_lem c = refl

@@ -42,7 +42,7 @@ about_head (Transfer unit (moves.Write size)) = (refl, refl, refl)
 about_head c = (refl, refl, refl)
 
 -- numbers with the same bytes are the same
-bytes_same : (v w : ℕ) → v < 4294967296 → w < 4294967296 → word_bytes v ≡ word_bytes w → v ≡ w
+pub bytes_same : (v w : ℕ) → v < 4294967296 → w < 4294967296 → word_bytes v ≡ word_bytes w → v ≡ w
 bytes_same v w hv hw e =
     let a : v / 16777216 ≡ w / 16777216 = cc in
     let b : v / 65536 % 256 ≡ w / 65536 % 256 = cc in
