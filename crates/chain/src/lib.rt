@@ -82,7 +82,8 @@ impl<R: Copy> Links<R> {
         ensures records { IfOk result (λ t. records t ≡ replicate n blank) }
         ensures nexts { IfOk result (λ t. nexts t ≡ replicate n None) }
     {
-        // `vec!` clones, and it is not said that a clone of an `R` is the same.
+        // Room for just `n` links: a `resize` from nothing makes room for four at least. `vec!` would clone, and it is not said
+        // that a clone of an `R` is the same.
         let mut links = Vec::with_capacity(heap, n)?;
         links.resize(
             n,

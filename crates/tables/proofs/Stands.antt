@@ -88,7 +88,7 @@ pub kept-over : {s : State} {a b c : ℕ} (x : Tables) (step : Step) (us : List 
     → (a ≡ clock.room x.waits) × (b ≡ cells.room x.cells) × (c ≡ queues.room_of x.queues) → StandsIn (with_units blanks s) a b c
 kept-over {s = s} x step us four ok e w = over_units {s = s} blanks refl (after_step {s = s} (state us x) _ _ _ step ok e w (over_units {s = state blanks x} us four x.stands))
 
--- whatever the units are
+-- the state that the tables mean stands, whatever the units are
 pub standing : (k : Tables) (us : List Medium) → length us ≡ 4 → ∥ Standing (state us k) ∥₁
 standing k us four = ∥∥₁_map k.stands.state (with_units_lem (state blanks k) us four)
 
